@@ -53,15 +53,15 @@ same first mid last es s a denied ec es′ acc =
     record {
       houses = ap length ec ∙ acc .houses;
       cover = λ h l.
-        let i = acc .cover h l in
-        let q = ap (λ (xs : List ℕ). getD xs h 0) ec in
-        let x : cond (taken a) (paidTo h s) 0 ≡ 0 = ap (λ (b : Bool). cond b (paidTo h s) 0) denied in
-        let y : cond (taken a) (positionIn h s) (pos 0) ≡ pos 0 = ap (λ (b : Bool). cond b (positionIn h s) (pos 0)) denied in
-        omega (arith, ints);
+          let i = acc .cover h l in
+          let q = ap (λ (xs : List ℕ). getD xs h 0) ec in
+          let x : cond (taken a) (paidTo h s) 0 ≡ 0 = ap (λ (b : Bool). cond b (paidTo h s) 0) denied in
+          let y : cond (taken a) (positionIn h s) (pos 0) ≡ pos 0 = ap (λ (b : Bool). cond b (positionIn h s) (pos 0)) denied in
+          omega (arith, ints);
       sittings =
-        let i = acc .sittings in
-        let x : cond (taken a) (sittingOf s) 0 ≡ 0 = ap (λ (b : Bool). cond b (sittingOf s) 0) denied in
-        omega arith;
+          let i = acc .sittings in
+          let x : cond (taken a) (sittingOf s) 0 ≡ 0 = ap (λ (b : Bool). cond b (sittingOf s) 0) denied in
+          omega arith;
     }
 
 step : (first mid last : Standing) (es : List Event) (s : Step) (a : StepAnswer) → Accounted first es mid → Does s a mid last
@@ -70,11 +70,11 @@ step first mid last es (Offer ps) (answer.Offer offer.Taken) acc (ans, ec, en) =
     record {
       houses = ap length ec ∙ addEach-length (mid .covers) (now ps) ∙ acc .houses;
       cover = λ h l.
-        let i = acc .cover h l in
-        let e = acc .houses in
-        let q = ap (λ (xs : List ℕ). getD xs h 0) ec in
-        let d = addEach-at (mid .covers) (now ps) (ans .0 .long) (ans .2) h (omega arith) in
-        omega (arith, ints);
+          let i = acc .cover h l in
+          let e = acc .houses in
+          let q = ap (λ (xs : List ℕ). getD xs h 0) ec in
+          let d = addEach-at (mid .covers) (now ps) (ans .0 .long) (ans .2) h (omega arith) in
+          omega (arith, ints);
       sittings = let i = acc .sittings in let z = ans .1 in omega arith;
     }
 step first mid last es (Offer ps) (answer.Offer offer.Unsound) acc (ans, ec, en) = same first mid last es (Offer ps) (answer.Offer offer.Unsound) refl ec en acc
@@ -87,10 +87,10 @@ step first mid last es (PayIn place amount) (answer.PayIn paid.Taken) acc (ans, 
     record {
       houses = ap length ec ∙ length-set (mid .covers) place _ ∙ acc .houses;
       cover = λ h l.
-        let i = acc .cover h l in
-        let q = ap (λ (xs : List ℕ). getD xs h 0) ec in
-        let g = set-gain (mid .covers) place amount h here in
-        omega (arith, ints);
+          let i = acc .cover h l in
+          let q = ap (λ (xs : List ℕ). getD xs h 0) ec in
+          let g = set-gain (mid .covers) place amount h here in
+          omega (arith, ints);
       sittings = let i = acc .sittings in omega arith;
     }
 step first mid last es (PayIn place amount) (answer.PayIn paid.NoSuchHouse) acc (ans, ec, en) = same first mid last es (PayIn place amount) (answer.PayIn paid.NoSuchHouse) refl ec en acc
@@ -122,7 +122,7 @@ ran-more first mid last steps answers i r d l k ran does =
       mid,
       subst (λ (es : List Event). Ran first es mid) (sym (history-past steps answers i i r (omega arith))) ran,
       subst (λ (x : StepAnswer). Does (getD steps i (PayIn 0 0)) x mid last) (sym (getD-set-same answers i r (answer.Offer offer.Unsound) k))
-      (subst (λ (x : Step). Does x r mid last) (getD-default steps i d (PayIn 0 0) l) does),
+          (subst (λ (x : Step). Does x r mid last) (getD-default steps i d (PayIn 0 0) l) does),
     )
 
 -- the steps are done: it was a run, and the law holds of it

@@ -12,7 +12,7 @@ loop-i-again g c =
       ran-more _ (record { covers = g .K·Keeper .covers (c .loop-i .keeper); sittings = g .K·Keeper .sittings (c .loop-i .keeper) }) _
           (c .args .steps .now) (c .loop-i .answers) (c .loop-i .i) (c .act .result) _ (omega arith) (omega arith) (c .loop-i .inv .0) (c .act .ensures),
       λ k d h. let ne : k ≢ c .loop-i .i = λ q. absurd (omega arith) in
-        getD-set-other (c .loop-i .answers) (c .loop-i .i) k (c .act .result) d ne ∙ c .loop-i .inv .1 k d (omega arith),
+          getD-set-other (c .loop-i .answers) (c .loop-i .i) k (c .act .result) d ne ∙ c .loop-i .inv .1 k d (omega arith),
     )
 
 pub returns : need.returns
