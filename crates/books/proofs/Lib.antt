@@ -1,0 +1,4 @@
+mod Opened
+mod Pledged
+mod Totals
+pub mod Worse

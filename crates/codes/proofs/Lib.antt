@@ -1,0 +1,3 @@
+mod Remainders
+mod Spelling
+mod Tables

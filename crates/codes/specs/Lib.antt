@@ -1,0 +1,4 @@
+pub mod Bics
+pub mod Accounts
+pub mod Instructions
+pub mod Examples

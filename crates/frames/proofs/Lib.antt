@@ -1,0 +1,7 @@
+mod Addresses
+mod Begins
+mod Bodies
+mod Contents
+mod Cuts
+mod Places
+mod Rowing

@@ -1,0 +1,6 @@
+pub mod Blocks
+pub mod Fixed
+pub mod Frames
+pub mod Layout
+pub mod Reading
+pub mod Rows

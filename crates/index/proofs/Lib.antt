@@ -1,0 +1,4 @@
+pub mod Optional
+pub mod Listed
+pub mod Spans
+pub mod Completes

@@ -1,0 +1,4 @@
+pub mod Cuts
+pub mod Joins
+pub mod Slashes
+pub mod Tests

@@ -1,0 +1,5 @@
+pub mod Chars
+pub mod Reference
+pub mod Rows
+pub mod Tags
+pub mod Texts

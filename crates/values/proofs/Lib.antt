@@ -1,0 +1,6 @@
+mod Zeros
+mod Numbers
+mod Reading
+mod Writing
+mod Months
+mod Lists
