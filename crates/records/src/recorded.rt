@@ -1,6 +1,6 @@
 // The record of one message.
-use names::kinds::FileKind;
 use crate::state::State;
+use names::kinds::FileKind;
 
 #[derive(Clone, Copy)]
 pub struct Record {
