@@ -1,0 +1,5 @@
+pub mod Contents
+pub mod Terms
+pub mod Verdicts
+pub mod Seen
+pub mod Sound
