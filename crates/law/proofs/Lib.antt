@@ -1,0 +1,6 @@
+mod Sums
+mod Amounts
+mod Invariant
+mod Steps
+mod Runs
+mod Mornings
