@@ -5,7 +5,7 @@ ghost use lib.ListN.{length};
 ghost use Rattle.std.specs.shelf.Digits.{number};
 
 // The number that the bytes write to the base 256.
-pub fn packed(text: &[u8]) -> u128
+pub(crate) fn packed(text: &[u8]) -> u128
     requires { ⌜ length (now text) ≤ 16 ⌝ }
     ensures { λ r. ⌜ r ≡ number 256 (now (text .entry)) ⌝ }
 {
