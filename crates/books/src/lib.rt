@@ -1,5 +1,8 @@
 // The books: two kinds of account keeper. The account book holds one balance a house; the guarantee book a pledge a house and a
 // running sum beside it. Knows nothing of who uses them: no messages, days or payments.
+
+#![tactic(auto)]
+
 mod account;
 mod balances;
 mod guarantee;

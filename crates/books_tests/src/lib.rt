@@ -1,4 +1,7 @@
 // Both books tried at the edges of their rules: openings, offers and pay-ins. Holds tests alone, so that the books are proved without them.
+
+#![tactic(auto)]
+
 #[cfg(test)]
 mod tests {
     use books::{AccountBook, GuaranteeBook, OpenDenial};

@@ -1,5 +1,8 @@
 // The program: a script in, a line or more for each command out. It only reads, calls and prints; what a line means
 // and what a command does is decided in the libraries.
+
+#![tactic(auto)]
+
 use keeper::{CoverAnswer, Keeper, OfferAnswer};
 use script::command::{Command, LineError};
 use script::read::read_line;

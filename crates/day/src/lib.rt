@@ -1,5 +1,8 @@
 // One settlement day over the caller's records: its phases, the house it remembers, and the calls that calculate, settle and exclude, above any keeper.
 // Every store into the records stands here. Knows nothing of how a message is written, nor of any particular book.
+
+#![tactic(auto)]
+
 mod answer;
 mod calculating;
 mod changing;

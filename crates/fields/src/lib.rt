@@ -1,5 +1,8 @@
 // The fields of a message: each kind of field read as one of four shapes, a part of the text's bytes, or refused with the code
 // and row of its first failing check. Knows nothing of the message that a field stands in, of houses or of days.
+
+#![tactic(auto)]
+
 mod check;
 pub mod letters;
 mod lines;

@@ -1,5 +1,8 @@
 // The verdict on a file's body before any of its messages is judged: its control message, the amounts that it counts,
 // and the denials of the whole file. Knows nothing of days, phases or records, or of what a message has to say.
+
+#![tactic(auto)]
+
 pub mod amounts;
 pub mod control;
 pub mod denial;

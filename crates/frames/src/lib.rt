@@ -1,5 +1,8 @@
 // From a file's bytes to its frames, from a frame's content to its blocks, and the row of a content that tells its amount.
 // Knows nothing of fields, of what an address or an amount means, or of the houses.
+
+#![tactic(auto)]
+
 pub mod blocks;
 pub mod fixed;
 pub mod reader;

@@ -1,5 +1,8 @@
 // The header of a message: its blocks, and the checks of its sender, its type and its receiver against the houses.
 // Knows nothing of fields and of the kinds of message.
+
+#![tactic(auto)]
+
 mod address;
 mod header;
 

@@ -1,5 +1,8 @@
 // The account keeper: what every kind of book of the houses' covers means and promises, and the law of any run of offers and pay-ins.
 // Knows nothing of messages, days or payments, nor of any particular book.
+
+#![tactic(auto)]
+
 mod answer;
 mod carrying;
 mod keeping;

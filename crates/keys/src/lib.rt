@@ -1,6 +1,9 @@
 // The kinds of keys that the clearing's records and houses are found by: a BIC, and a reference with its sender.
 // A key holds its text as one number, so that two compare fast, and no two texts have the same key.
 // Knows nothing of messages, of records, or of which houses there are.
+
+#![tactic(auto)]
+
 mod bic;
 mod orders;
 mod packing;

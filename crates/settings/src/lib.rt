@@ -1,5 +1,8 @@
 // What a clearing day is opened with: its date and currency, the clearing's own BIC, and the houses with their BICs.
 // Checking a file and composing a payment go by the same. Knows nothing of messages, records or phases.
+
+#![tactic(auto)]
+
 mod answers;
 mod building;
 mod directory;

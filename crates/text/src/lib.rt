@@ -1,5 +1,8 @@
 // The bytes of the message formats: classes of characters, parts of a slice, rows ended by CrLf, tags and references.
 // Knows nothing of money, houses or messages.
+
+#![tactic(auto)]
+
 pub mod chars;
 pub mod class;
 pub mod form;
