@@ -1,5 +1,5 @@
 -- The worst of the first houses.
-use Rattle.std.proofs.Common.{◌≡◌, ℕ, ◌+◌, ◌<◌, ◌≤◌, List, length, ℤ, ◌≤ℤ◌, ◌<ℤ◌, arith, below_more}
+use Rattle.std.proofs.Common.{◌≡◌, ℕ, ◌+◌, ◌<◌, List, length, ℤ, ◌≤ℤ◌, ◌<ℤ◌, arith, below_more}
 use Rattle.std.proofs.lemmas.Int.{ints}
 use Rattle.books.specs.Naming.{shortage, Worst}
 

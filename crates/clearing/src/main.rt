@@ -10,6 +10,7 @@ use session::{AnyBook, Session};
 use std::alloc::Global;
 use std::io;
 use std::io::{BufRead, BufReader, BufWriter, Write};
+use std::process::ExitCode;
 
 #[cfg(test)]
 mod tests;
@@ -108,7 +109,7 @@ fn report<W: Write>(rt: &impl Eprint, out: &mut W, number: usize, stop: &Stop) -
     eprintln!(rt; "line {number}: {why}")
 }
 
-fn main(rt: HostRuntime) -> Result<(), Stop> {
+fn main(rt: HostRuntime) -> io::Result<ExitCode> {
     let heap = rt.alloc();
     let mut out = BufWriter::new(heap, rt.stdout())?;
     let mut session = Session::new();
@@ -122,9 +123,9 @@ fn main(rt: HostRuntime) -> Result<(), Stop> {
         };
         if let Err(stop) = carried {
             report(&rt, &mut out, i.saturating_add(1), &stop)?;
-            return Err(stop);
+            return Ok(ExitCode::FAILURE);
         }
     }
     out.flush()?;
-    Ok(())
+    Ok(ExitCode::SUCCESS)
 }

@@ -62,7 +62,7 @@ fn is_formed(s: &[u8]) -> bool
     ensures { result ≡ account_formed s.now }
 {
     s.len() == LENGTH
-        && front(s, 2) == b"LV"
+        && front(s, 2) == b"LV".as_slice()
         && Class::Digit.has_all(front(skip(s, 2), 2))
         && Class::Capital.has_all(bank_of(s))
         && Class::Alphanumeric.has_all(skip(s, REST))

@@ -78,7 +78,7 @@ fn goes_on(s: &[u8]) -> bool
 fn is_code(s: &[u8], code: [u8; CODE]) -> bool
     ensures { result ≡ bytes_eq (take 4 s.now) code }
 {
-    front(s, CODE) == &code
+    front(s, CODE) == code.as_slice()
 }
 
 fn entry_allows(e: Entry, s: &[u8]) -> bool

@@ -8,7 +8,7 @@ fn accounts_and_bics(rt: HostRuntime) {
     assert!(rt; is_latvian_account(b"LV80BANK0000435195001"));
     assert!(rt; !is_latvian_account(b"LV81BANK0000435195001"));
     assert!(rt; !is_latvian_account(b"LV80BANK000043519500"));
-    assert!(rt; bank_of(b"LV80BANK0000435195001") == b"BANK");
+    assert!(rt; bank_of(b"LV80BANK0000435195001") == b"BANK".as_slice());
     assert!(rt; is_bic(b"BANKLV22"));
     assert!(rt; !is_bic(b"BANKL122"));
 }

@@ -1,7 +1,7 @@
 -- Writes to the records keep what the day keeps of them.
 use Rattle.std.proofs.Common.{◌≡◌, ℕ, ◌-◌, ◌<◌, ◌≤◌, Bool, true, false, cond, not, ◌&&◌, ◌||◌, eqb, ltb, leb, List, ◌++◌, map, length, get_or, take, drop, set, Some, None, Option, sym, refl, ap, ◌∙◌, subst, inl, inr, arith, MatchOption}
 use Rattle.std.proofs.lemmas.List.{get_or-set_same, get_or-set_other, get_or-take, length-take-le, take_at, drop_at, length-map}
-use Rattle.std.proofs.lemmas.Bool.{cases_eq, cases_Bool, both_ways, false≢true, and_parts, ltb-true, leb-true, eqb-false, not_true}
+use Rattle.std.proofs.lemmas.Bool.{cases_eq, cases_Bool, both_ways, false≢true, and_parts, ltb-true, leb-true, eqb-false, not-true}
 use Rattle.records.specs.Records.{record_at, blank}
 use Rattle.records.specs.States.{waits}
 use Rattle.records.specs.declared.recorded.Record.{Record}
@@ -73,7 +73,7 @@ other : (houses h : ℕ) (o : Option ℕ) → is_other houses h o ≡ true → M
 other houses h None e = false≢true e
 other houses h (Some k) e =
     let p = and_parts (ltb k houses) (not (eqb k h)) e in
-    (ltb-true k houses p.0, eqb-false k h (not_true (eqb k h) p.1))
+    (ltb-true k houses p.0, eqb-false k h (not-true (eqb k h) p.1))
 
 proper : (houses : ℕ) (r : Record) → is_proper houses r ≡ true → Proper houses r
 proper houses r e =

@@ -3,7 +3,7 @@ use Rattle.std.proofs.Common.{◌≡◌, ℕ, ◌+◌, ◌-◌, Bool, true, fals
 use Rattle.std.specs.Str.{bytes_eq}
 use Rattle.std.proofs.lemmas.Slice.Eq.{bytes_eq-Decides}
 use Rattle.std.proofs.lemmas.List.{length-append, drop-drop}
-use Rattle.std.proofs.lemmas.Bool.{cond-false, and_parts, and_from, eq-eqb, not_true, not_from_false}
+use Rattle.std.proofs.lemmas.Bool.{cond-false, and_parts, and_from, eq-eqb, not-true, not_from_false}
 use Rattle.frames.specs.Fixed.{soh, etx, crlf, begins, on_first}
 use Rattle.frames.specs.Frames.{frame, written, frames_from, frames_in, only_frames, unclosed, all_unclosed, IsBody, FramesLaw}
 use Rattle.frames.proofs.Cuts.{inside_more}
@@ -39,7 +39,7 @@ content_read : (c rest : List ℕ) → unclosed c ≡ true → frames_from true 
 content_read [] rest h = refl
 content_read (x ∷ c) rest h =
     let p = and_parts (not (eqb x etx)) (unclosed c) h in
-    inside_more x ((c ++ etx ∷ crlf) ++ rest) ∙ cond-false (eqb x etx) _ _ (not_true (eqb x etx) p.0) ∙ ap (on_first x) (content_read c rest p.1)
+    inside_more x ((c ++ etx ∷ crlf) ++ rest) ∙ cond-false (eqb x etx) _ _ (not-true (eqb x etx) p.0) ∙ ap (on_first x) (content_read c rest p.1)
 
 written_read : (cs : List (List ℕ)) → all_unclosed cs ≡ true → frames_in (written cs) ≡ cs
 written_read [] h = refl

@@ -2,7 +2,7 @@
 use Rattle.std.proofs.Common.{◌≡◌, ℕ, suc, ◌+◌, ◌-◌, ◌<◌, ◌≤◌, Bool, true, false, cond, not, eqb, List, [], ◌∷◌, ◌++◌, length, get_or, take, drop, sym, refl, ap, ◌∙◌, add-zero, arith}
 use Rattle.std.specs.List.{flat_map}
 use Rattle.std.proofs.lemmas.List.{length-drop, drop_more, get_or-drop, at_drop_all, append_assoc}
-use Rattle.std.proofs.lemmas.Bool.{cond-true, cond-false, and_parts, and_from, not_true, not_from_false, and_right, false≢true}
+use Rattle.std.proofs.lemmas.Bool.{cond-true, cond-false, and_parts, and_from, not-true, not_from_false, and_right, false≢true}
 use Rattle.frames.specs.Fixed.{crlf, begins, on_first}
 use Rattle.frames.specs.Rows.{ended_rows, crlf_place, uncut, all_uncut, AreRows, RowsLaw}
 use Rattle.frames.proofs.Begins.{begins_front}
@@ -71,7 +71,7 @@ rows_more b (c ∷ t) = refl
 uncut_first : (b : ℕ) (t : List ℕ) → uncut (b ∷ t) ≡ true → (begins crlf (b ∷ t) ≡ false) × (uncut t ≡ true)
 uncut_first b t h =
     let p = and_parts (not (begins crlf (b ∷ t))) (uncut t) h in
-    (not_true (begins crlf (b ∷ t)) p.0, p.1)
+    (not-true (begins crlf (b ∷ t)) p.0, p.1)
 
 uncut_before : (b : ℕ) (r u : List ℕ) → begins crlf (b ∷ r) ≡ false → begins crlf (b ∷ (r ++ crlf) ++ u) ≡ false
 uncut_before b [] u h = and_right (eqb b 13) false refl

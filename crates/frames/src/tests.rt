@@ -46,12 +46,12 @@ fn frames_come_in_order(rt: HostRuntime) {
 fn contents_have_blocks(rt: HostRuntime) -> Result<(), Fail> {
     let content = b"{1:F01BANKLV22AXXX00000}{2:I103HOUSLV22XXXXN}{4:\r\n:20:A\r\n-}";
     let blocks = Blocks::read(content).ok_or("no blocks")?;
-    assert_eq!(rt; blocks.sender().bic, b"BANKLV22");
-    assert_eq!(rt; blocks.sender().branch, b"XXX");
-    assert_eq!(rt; blocks.type_digits(), b"103");
-    assert_eq!(rt; blocks.receiver().bic, b"HOUSLV22");
-    assert_eq!(rt; blocks.receiver().branch, b"XXX");
-    assert_eq!(rt; blocks.text, b":20:A\r\n");
+    assert_eq!(rt; blocks.sender().bic, b"BANKLV22".as_slice());
+    assert_eq!(rt; blocks.sender().branch, b"XXX".as_slice());
+    assert_eq!(rt; blocks.type_digits(), b"103".as_slice());
+    assert_eq!(rt; blocks.receiver().bic, b"HOUSLV22".as_slice());
+    assert_eq!(rt; blocks.receiver().branch, b"XXX".as_slice());
+    assert_eq!(rt; blocks.text, b":20:A\r\n".as_slice());
     let bare = b"{1:F01BANKLV22AXXX00000}{2:I103HOUSLV22XXXXN}{4:\r\n-}";
     assert!(rt; Blocks::read(bare).is_some(), "an empty text");
     let small = b"{1:f01BANKLV22AXXX00000}{2:I103HOUSLV22XXXXN}{4:\r\n-}";

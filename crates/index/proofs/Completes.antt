@@ -1,10 +1,10 @@
 -- An index stays complete as items are added, and as they change in other things than their keys. Assumes nothing.
-use Rattle.std.proofs.Common.{◌≡◌, ℕ, ◌+◌, ◌-◌, ◌<◌, ◌≤◌, Bool, true, false, ◌⊎◌, List, [], ◌∷◌, ◌++◌, map, length, get_or, take, set, is_some, Some, None, Option, sym, refl, ap, ◌∙◌, subst, ⊎_elim, not-suc-le-zero, eq-or-lt_of_le, arith}
+use Rattle.std.proofs.Common.{◌≡◌, ℕ, ◌+◌, ◌-◌, ◌<◌, ◌≤◌, Bool, true, false, List, [], ◌∷◌, ◌++◌, map, length, get_or, take, set, is_some, Some, None, Option, sym, refl, ap, ◌∙◌, subst, ⊎_elim, not-suc-le-zero, eq-or-lt_of_le, arith}
 use Rattle.std.specs.List.{insert}
-use Rattle.std.proofs.lemmas.List.Edits.{length-insert, get_or-insert_below, get_or-insert_at, get_or-insert_above}
+use Rattle.std.proofs.lemmas.List.Edits.{get_or-insert_below, get_or-insert_at, get_or-insert_above}
 use Rattle.std.proofs.lemmas.Bool.{false≢true, cases_lt, cases_order}
 use Rattle.std.proofs.lemmas.List.{get_or_append_left, get_or_push, length_push, get_or-map, map-set, map_push, set-get_or, take_more_set}
-use Rattle.index.specs.Order.{key_of, key_at, precedes, listed, Known, Rising, Indexed, Complete, Gap, Lacks}
+use Rattle.index.specs.Order.{key_of, key_at, precedes, listed, Known, Indexed, Complete, Gap, Lacks}
 use Rattle.index.proofs.Optional.{below, precedes_irreflexive}
 use Rattle.index.proofs.Listed.{places, standing, listed_new, listed_old}
 

@@ -1,5 +1,5 @@
 -- A search among the numbers. Assumes nothing.
-use Rattle.std.proofs.Common.{◌≡◌, ℕ, ◌+◌, ◌<◌, ◌≤◌, Bool, true, false, List, length, get_or, Some, None, Option, sym, refl, ap, ◌∙◌, subst, ⊎_elim, eq-or-lt_of_le, arith, below_more}
+use Rattle.std.proofs.Common.{◌≡◌, ℕ, ◌+◌, ◌<◌, ◌≤◌, Bool, true, false, List, length, Some, Option, ap, ◌∙◌, subst, ⊎_elim, eq-or-lt_of_le, arith, below_more}
 use Rattle.std.proofs.lemmas.Bool.{cases_lt}
 use Rattle.index.specs.Order.{key_of, key_at, precedes, Indexed, Gap, Lacks}
 use Rattle.index.proofs.Optional.{precedes_transitive, precedes_irreflexive}

@@ -1,15 +1,12 @@
 -- The law of a run, step by step.
-use Rattle.std.proofs.Common.{◌≡◌, ℕ, zero, suc, ◌+◌, ◌-◌, ◌<◌, ◌≤◌, Bool, true, false, cond, ◌&&◌, eqb, ltb, leb, ◌≢◌, ◌⊎◌, List, [], ◌∷◌, length, get_or, set, ℤ, pos, ◌+ℤ◌, sym, refl, ap, ◌∙◌, subst, inl, inr, add-one, arith, length-set}
+use Rattle.std.proofs.Common.{◌≡◌, ℕ, zero, suc, ◌+◌, ◌<◌, ◌≤◌, Bool, false, cond, eqb, ◌≢◌, List, [], ◌∷◌, length, get_or, set, pos, sym, refl, ap, ◌∙◌, subst, inl, inr, add-one, arith, length-set}
 use Rattle.std.proofs.lemmas.List.{get_or-set_same, get_or-set_other, get_or_default}
 use Rattle.std.proofs.lemmas.Int.{ints}
-use Rattle.std.proofs.lemmas.Bool.{cases_Bool}
 use Rattle.std.proofs.lemmas.Bool.Decides.{eqb_tells, leb_tells, nat_tests}
 use Rattle.keeper.specs.Numbers.{pay_in_number}
 use Rattle.keeper.specs.PayIns.{pay_in_answer, acceptable}
-use Rattle.keeper.specs.Runs.{Standing, Event, history, Does, Ran, taken, paid_to, position_in, sitting_of, over_taken, over_taken_ℤ, Accounted, Carried}
-use Rattle.keeper.specs.declared.answer.OfferAnswer.{OfferAnswer}
+use Rattle.keeper.specs.Runs.{Standing, Event, history, Does, Ran, taken, paid_to, position_in, sitting_of, Accounted, Carried}
 use Rattle.keeper.specs.declared.answer.OfferAnswer.TheVariants as offer
-use Rattle.keeper.specs.declared.answer.PayInAnswer.{PayInAnswer}
 use Rattle.keeper.specs.declared.answer.PayInAnswer.TheVariants as paid
 use Rattle.keeper.specs.declared.step.Step.{Step}
 use Rattle.keeper.specs.declared.step.Step.TheVariants.{Offer, PayIn}
@@ -17,7 +14,7 @@ use Rattle.keeper.specs.declared.step.StepAnswer.{StepAnswer}
 use Rattle.keeper.specs.declared.step.StepAnswer.TheVariants as answer
 use Rattle.keeper.proofs.Added.{add_each_length, add_each_at}
 
--- a pay-in that is taken is for a house
+-- a pay_in that is taken is for a house
 paid_house : (covers : List ℕ) (place amount : ℕ) → paid.Taken ≡ pay_in_answer covers place amount → place < length covers
 paid_house covers place amount e =
     elim (leb_tells (suc place) (length covers)) [

@@ -1,5 +1,5 @@
 -- Any run of offers and pay-ins on one keeper, and what it leaves.
-use Rattle.std.specs.Prelude.{◌≡◌, ℕ, zero, suc, ◌+◌, ◌<◌, Bool, cond, ◌&&◌, List, [], ◌∷◌, length, ℤ, pos, ◌+ℤ◌, ◌==◌, slice_index, slice_index_or}
+use Rattle.std.specs.Prelude.{◌≡◌, ℕ, zero, suc, ◌+◌, ◌<◌, Bool, cond, List, [], ◌∷◌, length, ℤ, pos, ◌+ℤ◌, ◌==◌, slice_index, slice_index_or}
 use Rattle.keeper.specs.Numbers.{offer_number, pay_in_number}
 use Rattle.keeper.specs.Offers.{OfferAnswered, covers_after, sittings_after}
 use Rattle.keeper.specs.PayIns.{pay_in_answer, covers_paid}

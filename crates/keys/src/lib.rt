@@ -39,7 +39,7 @@ mod tests {
         let Some(reference) = Reference::read(b"A-1/+ '?") else {
             return Err(Fail::new("no reference"));
         };
-        assert!(rt; reference.spelling().as_slice() == b"A-1/+ '?");
+        assert!(rt; reference.spelling().as_slice() == b"A-1/+ '?".as_slice());
         assert!(rt; Reference::read(b"0123456789ABCDEF").is_some());
         assert!(rt; Reference::read(b"0123456789ABCDEFG").is_none());
         assert!(rt; Reference::read(b"").is_none());

@@ -1,10 +1,10 @@
 -- A text is cut into its words one by one, and the words are all that splits it. Assumes nothing.
-use Rattle.std.proofs.Common.{◌≡◌, ℕ, zero, suc, ◌+◌, ◌<◌, ◌≤◌, Bool, true, false, cond, not, ◌&&◌, eqb, List, [], ◌∷◌, ◌++◌, length, take, drop, sym, refl, ap, ◌∙◌, one-add, arith}
+use Rattle.std.proofs.Common.{◌≡◌, ℕ, ◌+◌, ◌<◌, ◌≤◌, Bool, true, false, cond, not, eqb, List, [], ◌∷◌, ◌++◌, length, take, drop, sym, refl, ap, ◌∙◌, one-add, arith}
 use Rattle.std.specs.List.{flat_map}
 use Rattle.std.proofs.lemmas.List.{length-drop}
 use Rattle.std.proofs.lemmas.Bool.{and_parts, and_from, eq-eqb, eqb-true, cond-true, cond-false}
-use Rattle.text.specs.Chars.{place, every}
-use Rattle.script.specs.Words.{on_first, words_of, words_after, together, lacks, AllLack, Splits, WordsLaw}
+use Rattle.text.specs.Chars.{place}
+use Rattle.script.specs.Words.{on_first, words_of, words_after, together, lacks, AllLack, WordsLaw}
 
 cut_by : (sep b : ℕ) (t : List ℕ) → words_of sep t ≡ take (place sep t) t ∷ words_after sep (drop (place sep t) t)
     → (v : Bool) → cond v ([] ∷ words_of sep t) (on_first b (words_of sep t)) ≡ take (cond v 0 (1 + place sep t)) (b ∷ t) ∷ words_after sep (drop (cond v 0 (1 + place sep t)) (b ∷ t))

@@ -1,7 +1,6 @@
 -- What a word spells, byte by byte. Assumes nothing.
-use Rattle.std.proofs.Common.{◌≡◌, ℕ, ◌+◌, ◌<◌, Bool, true, false, cond, eqb, List, [], ◌∷◌, Some, None, Ok, Err, Option, Result, sym, refl, ap, ◌∙◌}
+use Rattle.std.proofs.Common.{◌≡◌, ℕ, false, eqb, List, [], ◌∷◌, Some, sym, ap, ◌∙◌}
 use Rattle.std.proofs.lemmas.Bool.{eq-eqb, ne_eqb, cond-true, cond-false}
-use Rattle.script.specs.declared.command.LineError.{LineError}
 use Rattle.script.specs.Outcomes.{in_front}
 use Rattle.script.specs.Spelling.{backslash, hex_digit, paired, escaped, spelled}
 

@@ -1,5 +1,5 @@
 -- How a word spells bytes: a backslash and two hexadecimal digits stand for one byte, any other byte for itself.
-use Rattle.std.specs.Prelude.{ℕ, ◌+◌, ◌-◌, ◌*◌, Bool, true, false, cond, ◌&&◌, List, [], ◌∷◌, Some, None, Ok, Err, Option, Result, ◌==◌, nat_le}
+use Rattle.std.specs.Prelude.{ℕ, ◌+◌, ◌-◌, ◌*◌, cond, ◌&&◌, List, [], ◌∷◌, Some, None, Ok, Err, Option, Result, ◌==◌, nat_le}
 use Rattle.script.specs.declared.command.LineError.{LineError}
 use Rattle.script.specs.declared.command.LineError.TheVariants.{BadEscape}
 use Rattle.script.specs.Outcomes.{in_front}

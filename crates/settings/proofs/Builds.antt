@@ -5,7 +5,7 @@ use Rattle.std.specs.declared.alloc.Global.{Global}
 use Rattle.std.proofs.lemmas.Slice.Eq.{bytes_eq-Decides}
 use Rattle.std.proofs.lemmas.List.{get_or-map, length-map, map_push, map_more, length-take-le, get_or-take}
 use Rattle.std.proofs.lemmas.Simd.{map-map}
-use Rattle.std.proofs.lemmas.Bool.{and_parts, not_true, both_ways, or_parts}
+use Rattle.std.proofs.lemmas.Bool.{and_parts, not-true, both_ways, or_parts}
 use Rattle.index.specs.declared.numbers.Index.{Index}
 use Rattle.index.specs.Contents.{entries, room}
 use Rattle.index.specs.Order.{key_of, Complete}
@@ -43,7 +43,7 @@ not_among t (x ∷ es) k (suc i) d h e = not_among t es (or_parts (bytes_eq t (e
 pub differ : (es : List HouseEntry) → bics_kept es ≡ true → (i j : ℕ) (d : HouseEntry) → i < j → j < length es → entry_text (get_or es i d) ≡ entry_text (get_or es j d) → ⊥
 differ [] k i j d lt h e = not-suc-le-zero h
 differ (x ∷ es) k i zero d lt h e = not-suc-le-zero lt
-differ (x ∷ es) k zero (suc j) d lt h e = not_among (entry_text x) es (not_true (among (entry_text x) es) (and_parts (bic_formed (entry_text x)) _ (and_parts (bic_kept (entry_text x) es) (bics_kept es) k).0).1) j d (omega arith) e
+differ (x ∷ es) k zero (suc j) d lt h e = not_among (entry_text x) es (not-true (among (entry_text x) es) (and_parts (bic_formed (entry_text x)) _ (and_parts (bic_kept (entry_text x) es) (bics_kept es) k).0).1) j d (omega arith) e
 differ (x ∷ es) k (suc i) (suc j) d lt h e = differ es (and_parts (bic_kept (entry_text x) es) (bics_kept es) k).1 i j d (omega arith) (omega arith) e
 
 -- the house that has the BIC b was given with b's characters

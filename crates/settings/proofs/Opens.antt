@@ -1,6 +1,6 @@
 -- The rules of opening, one by one. Assumes nothing.
 use Rattle.std.proofs.Common.{◌≡◌, ℕ, ◌≤◌, Bool, true, false, not, ◌&&◌, leb, List, length}
-use Rattle.std.proofs.lemmas.Bool.{and_left, and_right, and_from, and_parts, leb-true, not_true}
+use Rattle.std.proofs.lemmas.Bool.{and_left, and_right, and_from, and_parts, leb-true, not-true}
 use Rattle.codes.specs.Bics.{bic_formed}
 use Rattle.values.specs.Calendar.{valid_date}
 use Rattle.values.specs.Currencies.{currency_formed}
@@ -48,4 +48,4 @@ houses_kept_lem c es h =
     let a = and_parts (leb 1 (length es)) (leb (length es) 64 && (bics_kept es && not (among c es))) h in
     let b = and_parts (leb (length es) 64) (bics_kept es && not (among c es)) a.1 in
     let d = and_parts (bics_kept es) (not (among c es)) b.1 in
-    record { some = leb-true 1 (length es) a.0; few = leb-true (length es) 64 b.0; kept = d.0; apart = not_true (among c es) d.1 }
+    record { some = leb-true 1 (length es) a.0; few = leb-true (length es) 64 b.0; kept = d.0; apart = not-true (among c es) d.1 }

@@ -21,8 +21,10 @@ fn amounts_are_read(rt: HostRuntime) {
 
 #[test]
 fn amounts_are_written(rt: HostRuntime) -> Result<(), Fail> {
-    assert!(rt; Written::new(1).ok_or("a cent")?.as_slice() == b"0,01");
-    assert!(rt; Written::new(100_000_000).ok_or("a million")?.as_slice() == b"1000000,00");
+    assert!(rt; Written::new(1).ok_or("a cent")?.as_slice() == b"0,01".as_slice());
+    assert!(rt;
+        Written::new(100_000_000).ok_or("a million")?.as_slice() == b"1000000,00".as_slice()
+    );
     assert!(rt; Written::new(0).is_none());
     assert!(rt; Written::new(1_000_000_001).is_none());
     Ok(())

@@ -6,8 +6,8 @@ use Rattle.keeper.specs.Offers.{add_each}
 use Rattle.keeper.proofs.Added.{add_each_length}
 use Rattle.books.proofs.pledges.together.Goals as goal
 
-pub overflow-add-all : goal.overflow-add-all
-overflow-add-all c =
+pub overflow_add-all : goal.overflow_add-all
+overflow_add-all c =
     let l = add_each_length c.args.pledges.now c.args.sums.now in
     let m = sum_by_more (λ x. x) (add_each c.args.pledges.now c.args.sums.now) c.loop-i.i 0 (omega arith) in
     let t = sum_by-take-le (λ x. x) (add_each c.args.pledges.now c.args.sums.now) (c.loop-i.i + 1) in

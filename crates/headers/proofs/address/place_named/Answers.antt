@@ -12,7 +12,7 @@ returns-in-Some c =
     let t = c.args.text.now in
     let hs = houses_of c.args.settings.now in
     let read : bic_text c.in-Some.bic ≡ t = (formed_some bic_formed t (bic_text c.in-Some.bic) c.in-Some.ensures).1 in
-    c.place-of.ensures.place ∙ place_same c.in-Some.bic hs ∙ ap (λ u. place_named u hs) read
+    c.place_of.ensures.place ∙ place_same c.in-Some.bic hs ∙ ap (λ u. place_named u hs) read
 
 pub returns-in-None : goal.returns-in-None
 returns-in-None c =

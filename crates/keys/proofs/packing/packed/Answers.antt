@@ -5,19 +5,19 @@ use Rattle.std.proofs.lemmas.List.{take_all}
 use Rattle.keys.specs.Packs.{Bytes, number_room}
 use Rattle.keys.proofs.packing.packed.Goals as goal
 
-pub overflow-mul-n : goal.overflow-mul-n
-overflow-mul-n c =
+pub overflow_mul-n : goal.overflow_mul-n
+overflow_mul-n c =
     let t = c.args.text.now in
     let i : ℕ = c.loop-b.b-index in
-    let bytes : Bytes t = λ k _. omega (arith, c.type-inv.text k) in
+    let bytes : Bytes t = λ k _. omega (arith, c.type_inv.text k) in
     let room = number_room t bytes c.requires i c.loop-b-test.true in
     omega (arith, c.loop-b.invariant)
 
-pub overflow-add-n : goal.overflow-add-n
-overflow-add-n c =
+pub overflow_add-n : goal.overflow_add-n
+overflow_add-n c =
     let t = c.args.text.now in
     let i : ℕ = c.loop-b.b-index in
-    let bytes : Bytes t = λ k _. omega (arith, c.type-inv.text k) in
+    let bytes : Bytes t = λ k _. omega (arith, c.type_inv.text k) in
     let room = number_room t bytes c.requires i c.loop-b-test.true in
     omega (arith, c.loop-b.invariant)
 

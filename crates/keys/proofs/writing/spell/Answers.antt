@@ -7,8 +7,8 @@ use Rattle.keys.proofs.writing.spell.Goals as goal
 pub loop-rest-init : goal.loop-rest-init
 loop-rest-init c = (refl, omega arith, length-digits_of-le 256 16 c.args.code (omega arith) (omega arith), append-nil (spelled c.args.code))
 
-pub overflow-sub-start : goal.overflow-sub-start
-overflow-sub-start c =
+pub overflow_sub-start : goal.overflow_sub-start
+overflow_sub-start c =
     let more = length-digits_of_step 256 c.loop-rest.rest (omega arith) (omega arith) in
     omega (arith, c.loop-rest.invariant.2)
 

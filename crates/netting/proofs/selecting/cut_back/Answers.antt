@@ -4,8 +4,8 @@ use Rattle.netting.proofs.Shifts.{in_step_within}
 use Rattle.netting.proofs.Cuts.{some_by}
 use Rattle.netting.proofs.selecting.cut_back.Goals as goal
 
-pub is-short-requires : goal.is-short-requires
-is-short-requires c = record { here = omega arith; within = in_step_within _ _ _ _ c.walk.invariant.0 }
+pub is_short-requires : goal.is_short-requires
+is_short-requires c = record { here = omega arith; within = in_step_within _ _ _ _ c.walk.invariant.0 }
 
 pub returns : goal.returns
 returns c =

@@ -2,9 +2,9 @@ use Rattle.std.proofs.Common.{rules}
 use Rattle.orders.specs.Orders.{taken, left}
 use Rattle.orders.proofs.reading.advance.Goals as goal
 
-pub returns-in-default : goal.returns-in-default
+pub returns-in_default : goal.returns-in_default
 unfolding taken left
-returns-in-default c = search rules
+returns-in_default c = search rules
 
 pub returns : goal.returns
 unfolding taken left

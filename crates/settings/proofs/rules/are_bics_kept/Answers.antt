@@ -6,11 +6,11 @@ use Rattle.settings.proofs.rules.are_bics_kept.Goals as goal
 pub loop-i-preserved : goal.loop-i-preserved
 loop-i-preserved c = search (rules, kept_yes)
 
-pub returns-then-not-is-bic-kept : goal.returns-then-not-is-bic-kept
-returns-then-not-is-bic-kept c =
+pub returns-then-not-is_bic_kept : goal.returns-then-not-is_bic_kept
+returns-then-not-is_bic_kept c =
     let es = c.args.entries.now in
     let i = c.loop-i.i in
-    let no = ap (bic_kept (entry_text (get_or es i no_entry))) (sym c.split-at.ensures.back) ∙ sym c.if-not-is-bic-kept.ensures in
+    let no = ap (bic_kept (entry_text (get_or es i no_entry))) (sym c.split_at.ensures.back) ∙ sym c.if-not-is_bic_kept.ensures in
     sym (kept_no es i no_entry c.loop-i-test.true no) ∙ c.loop-i.invariant
 
 pub returns : goal.returns

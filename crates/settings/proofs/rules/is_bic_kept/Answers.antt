@@ -10,7 +10,7 @@ returns-in-Some c =
     let t = c.args.entry.now.bic.now in
     let later = c.args.later.now in
     let read = formed_some bic_formed t (bic_text c.in-Some.bic) c.in-Some.ensures in
-    ap not (c.is-among.ensures ∙ ap (λ u. among u later) read.1) ∙ sym (ap (λ b. b && not (among t later)) read.0)
+    ap not (c.is_among.ensures ∙ ap (λ u. among u later) read.1) ∙ sym (ap (λ b. b && not (among t later)) read.0)
 
 pub returns-in-None : goal.returns-in-None
 returns-in-None c =

@@ -12,8 +12,8 @@ returns-then-byte-ne58 c = record {
   law = text_law;
 }
 
-pub returns-then-not-is-crlf : goal.returns-then-not-is-crlf
-returns-then-not-is-crlf c =
+pub returns-then-not-is_crlf : goal.returns-then-not-is_crlf
+returns-then-not-is_crlf c =
     let n : Turn c.loop-rest.rest.now c.skip-after.result.now c.run-k.result c.byte-in-loop-rest.result c.byte-in-loop-rest-2.result = record {
       some = search rules;
       long = c.run-k.ensures;
@@ -21,10 +21,10 @@ returns-then-not-is-crlf c =
       one = c.byte-in-loop-rest.ensures;
       two = c.byte-in-loop-rest-2.ensures;
     } in
-    record { test = sym (and_left _ _ (sym c.loop-rest.invariant ∙ good_short _ _ _ _ _ n c.if-not-is-crlf.ensures)); law = text_law }
+    record { test = sym (and_left _ _ (sym c.loop-rest.invariant ∙ good_short _ _ _ _ _ n c.if-not-is_crlf.ensures)); law = text_law }
 
-pub returns-then-not-is-begun : goal.returns-then-not-is-begun
-returns-then-not-is-begun c =
+pub returns-then-not-is_begun : goal.returns-then-not-is_begun
+returns-then-not-is_begun c =
     let n : Turn c.loop-rest.rest.now c.skip-after.result.now c.run-k.result c.byte-in-loop-rest.result c.byte-in-loop-rest-2.result = record {
       some = search rules;
       long = c.run-k.ensures;
@@ -32,7 +32,7 @@ returns-then-not-is-begun c =
       one = c.byte-in-loop-rest.ensures;
       two = c.byte-in-loop-rest-2.ensures;
     } in
-    record { test = sym (and_left _ _ (sym c.loop-rest.invariant ∙ good_not _ _ _ _ _ _ n c.front.ensures c.if-not-is-crlf.ensures c.if-not-is-begun.ensures)); law = text_law }
+    record { test = sym (and_left _ _ (sym c.loop-rest.invariant ∙ good_not _ _ _ _ _ _ n c.front.ensures c.if-not-is_crlf.ensures c.if-not-is_begun.ensures)); law = text_law }
 
 pub loop-rest-smaller : goal.loop-rest-smaller
 loop-rest-smaller c =
@@ -48,7 +48,7 @@ loop-rest-preserved c =
       one = c.byte-in-loop-rest.ensures;
       two = c.byte-in-loop-rest-2.ensures;
     } in
-    good_more _ _ _ _ _ _ _ n c.front.ensures c.skip-rest.ensures c.if-not-is-crlf.ensures c.if-not-is-begun.ensures ∙ c.loop-rest.invariant
+    good_more _ _ _ _ _ _ _ n c.front.ensures c.skip-rest.ensures c.if-not-is_crlf.ensures c.if-not-is_begun.ensures ∙ c.loop-rest.invariant
 
 pub returns : goal.returns
 returns c =

@@ -3,14 +3,14 @@ use Rattle.std.proofs.lemmas.List.{take_all}
 use Rattle.values.proofs.Numbers.{digit_at, ten_step, ten_under, number_more}
 use Rattle.values.proofs.amounts.value.Goals as goal
 
-pub overflow-mul-n : goal.overflow-mul-n
-overflow-mul-n c = omega (arith, ten_under _ _ 14 c.loop-b.invariant.1 (omega arith))
+pub overflow_mul-n : goal.overflow_mul-n
+overflow_mul-n c = omega (arith, ten_under _ _ 14 c.loop-b.invariant.1 (omega arith))
 
-pub overflow-sub-n : goal.overflow-sub-n
-overflow-sub-n c = search (rules, digit_at)
+pub overflow_sub-n : goal.overflow_sub-n
+overflow_sub-n c = search (rules, digit_at)
 
-pub overflow-add-n : goal.overflow-add-n
-overflow-add-n c = omega (arith, ten_under _ _ 14 c.loop-b.invariant.1 (omega arith))
+pub overflow_add-n : goal.overflow_add-n
+overflow_add-n c = omega (arith, ten_under _ _ 14 c.loop-b.invariant.1 (omega arith))
 
 pub loop-b-preserved : goal.loop-b-preserved
 loop-b-preserved c =

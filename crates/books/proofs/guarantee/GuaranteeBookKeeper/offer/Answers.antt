@@ -4,17 +4,17 @@ use Rattle.std.proofs.lemmas.List.{with_items_is}
 use Rattle.books.specs.Pledges.{Backed}
 use Rattle.books.proofs.guarantee.GuaranteeBookKeeper.offer.Goals as goal
 
-pub invariant-of-self : goal.invariant-of-self
-invariant-of-self c =
-    let is : vec_items (with_items c.args.self.now.sums c.take-offer.new.sums) ≡ c.take-offer.new.sums =
-    with_items_is c.args.self.now.sums c.take-offer.new.sums (omega arith) in
-    let P : List ℕ → Type 0 = λ pledges. Backed pledges c.take-offer.new.sums in
+pub invariant_of-self : goal.invariant_of-self
+invariant_of-self c =
+    let is : vec_items (with_items c.args.self.now.sums c.take_offer.new.sums) ≡ c.take_offer.new.sums =
+    with_items_is c.args.self.now.sums c.take_offer.new.sums (omega arith) in
+    let P : List ℕ → Type 0 = λ pledges. Backed pledges c.take_offer.new.sums in
     let S : List ℤ → Type 0 = λ sums. Backed (vec_items c.args.self.now.pledges) sums in
-    let b = subst S (sym is) (subst P c.deref.ensures.value c.take-offer.ensures.backed) in
-    (c.args.self.now.some, (c.args.self.now.few, (b.long, (b.wide, (b.enough, (b.pledged, (b.bounded, tt)))))))
+    let b = subst S (sym is) (subst P c.deref.ensures.value c.take_offer.ensures.backed) in
+    record { some = c.args.self.now.some; few = c.args.self.now.few; long = b.long; wide = b.wide; enough = b.enough; pledged = b.pledged; bounded = b.bounded }
 
 pub returns : goal.returns
 returns c =
-    let is : vec_items (with_items c.args.self.now.sums c.take-offer.new.sums) ≡ c.take-offer.new.sums =
-    with_items_is c.args.self.now.sums c.take-offer.new.sums (omega arith) in
+    let is : vec_items (with_items c.args.self.now.sums c.take_offer.new.sums) ≡ c.take_offer.new.sums =
+    with_items_is c.args.self.now.sums c.take_offer.new.sums (omega arith) in
     record { answer = search rules; covers_after = cc; sittings_after = search rules; denial_alters_nothing = search rules; named = search rules; pledges_stay = search rules }

@@ -6,18 +6,18 @@ use Rattle.cuts.specs.Cuts.{whole, leads}
 use Rattle.cuts.proofs.Pieces.{field_next, no_tag, whole_after}
 use Rattle.cuts.proofs.tagged.Fields.next.Goals as goal
 
-pub returns-in-default-tag-of : goal.returns-in-default-tag-of
-returns-in-default-tag-of c =
+pub returns-in_default-tag_of : goal.returns-in_default-tag_of
+returns-in_default-tag_of c =
     let t = c.args.self.now.rest.now in
     let e : rows_of t ≡ c.in-Some.row.now ∷ rows_of c.next.new.self.rest.now = sym (ap rows_of c.new-rows.ensures) ∙ c.in-Some.ensures.rows in
-    absurd (no_tag t c.in-Some.row.now c.next.new.self.rest.now c.args.self.now.whole e (sym c.tag-of.ensures ∙ c.in-default-tag-of.is))
+    absurd (no_tag t c.in-Some.row.now c.next.new.self.rest.now c.args.self.now.whole e (sym c.tag_of.ensures ∙ c.in_default-tag_of.is))
 
-pub invariant-of-self : goal.invariant-of-self
-invariant-of-self c =
+pub invariant_of-self : goal.invariant_of-self
+invariant_of-self c =
     let t = c.args.self.now.rest.now in
     let g : good t ≡ true = (and_parts (good t) (leads (rows_of t)) c.args.self.now.whole).0 in
     let k : good c.next.new.self.rest.now ≡ true = c.in-Some.ensures.formed (ap good c.new-rows.ensures ∙ g) in
-    (whole_after c.next.new.self.rest.now c.from-tag-after.result.now c.from-tag-after.ensures.rows (c.from-tag-after.ensures.formed k), tt)
+    record { whole = whole_after c.next.new.self.rest.now c.from_tag-after.result.now c.from_tag-after.ensures.rows (c.from_tag-after.ensures.formed k) }
 
 pub returns : goal.returns
 returns c =
@@ -26,8 +26,8 @@ returns c =
     let g : good t ≡ true = (and_parts (good t) (leads (rows_of t)) c.args.self.now.whole).0 in
     let k : good c.next.new.self.rest.now ≡ true = c.in-Some.ensures.formed (ap good c.new-rows.ensures ∙ g) in
     record {
-      fields = field_next t c.in-Some.row.now c.next.new.self.rest.now c.from-tag-after.result.now c.front.result.now c.skip.result.now c.in-Some-tag-of.tag
-          c.args.self.now.whole e (sym c.tag-of.ensures ∙ c.in-Some-tag-of.is) c.from-tag-after.ensures.rows (c.from-tag-after.ensures.formed k)
+      fields = field_next t c.in-Some.row.now c.next.new.self.rest.now c.from_tag-after.result.now c.front.result.now c.skip.result.now c.in-Some-tag_of.tag
+          c.args.self.now.whole e (sym c.tag_of.ensures ∙ c.in-Some-tag_of.is) c.from_tag-after.ensures.rows (c.from_tag-after.ensures.formed k)
           c.front.ensures (c.skip.ensures ∙ ap (λ n. drop n c.front.result.now) c.size.ensures);
       shorter = search rules;
     }

@@ -4,9 +4,15 @@ use Rattle.day.proofs.Records.{fits_set}
 use Rattle.day.proofs.Stamps.{stamp_more_yes, stamp_more_no, stamp_all, stamp_rest}
 use Rattle.day.proofs.day.Day.stamp.Goals as goal
 
-pub invariant-of-self : goal.invariant-of-self
-invariant-of-self c =
-    (simp length-set c.loop-i.self.room, (c.loop-i.self.few, (c.loop-i.self.short, (fits_set _ _ c.loop-i.i c.loop-i.self.records.now _ (let r = c.loop-i.self.room in omega arith) refl c.loop-i.self.fits, tt))))
+pub invariant_of-self : goal.invariant_of-self
+invariant_of-self c =
+    let r = c.loop-i.self.room in
+    record {
+      room = simp length-set c.loop-i.self.room;
+      few = c.loop-i.self.few;
+      short = c.loop-i.self.short;
+      fits = fits_set _ _ c.loop-i.i c.loop-i.self.records.now _ (omega arith) refl c.loop-i.self.fits;
+    }
 
 pub loop-i-preserved : goal.loop-i-preserved
 loop-i-preserved c = search (rules, stamp_more_yes, stamp_more_no)

@@ -1,4 +1,4 @@
-use Rattle.std.proofs.Common.{◌≡◌, ℕ, ◌+◌, ◌-◌, ◌/◌, ◌<◌, ◌≤◌, true, map, length, get_or, Some, vec_items, sym, refl, ap, ◌∙◌, subst, arith}
+use Rattle.std.proofs.Common.{◌≡◌, ℕ, ◌+◌, ◌-◌, ◌/◌, ◌<◌, ◌≤◌, true, map, length, get_or, Some, vec_items, sym, ap, subst, arith}
 use Rattle.index.specs.Order.{key_of, precedes}
 use Rattle.index.proofs.Listed.{stands}
 use Rattle.index.proofs.Spans.{raised, lowered, shut, lacks}
@@ -14,7 +14,7 @@ loop-low-preserved-in-Less g c =
     let high : ℕ = c.loop-low.high in
     let mid : ℕ = low + (high - low) / 2 in
     let t : low < high = c.loop-low-test.true in
-    let here = subst (λ ms. precedes before (key_of ks (get_or ms mid 0)) (Some k) ≡ true) c.as-slice-numbers.ensures.value c.in-Less.ensures in
+    let here = subst (λ ms. precedes before (key_of ks (get_or ms mid 0)) (Some k) ≡ true) c.as_slice-numbers.ensures.value c.in-Less.ensures in
     raised before ks ns k g.met.K.Key.transitive c.requires low high mid c.loop-low.invariant (omega arith) here
 
 pub loop-low-preserved : goal.loop-low-preserved
@@ -27,7 +27,7 @@ loop-low-preserved g c =
     let high : ℕ = c.loop-low.high in
     let mid : ℕ = low + (high - low) / 2 in
     let t : low < high = c.loop-low-test.true in
-    let here = subst (λ ms. precedes before (Some k) (key_of ks (get_or ms mid 0)) ≡ true) c.as-slice-numbers.ensures.value c.in-Greater.ensures in
+    let here = subst (λ ms. precedes before (Some k) (key_of ks (get_or ms mid 0)) ≡ true) c.as_slice-numbers.ensures.value c.in-Greater.ensures in
     lowered before ks ns k g.met.K.Key.transitive c.requires low high mid c.loop-low.invariant (omega arith) (omega arith) here
 
 pub returns-in-Equal : goal.returns-in-Equal
@@ -39,7 +39,7 @@ returns-in-Equal g c =
     let t : low < high = c.loop-low-test.true in
     let top : high ≤ length ns = c.loop-low.invariant.top in
     record {
-      among = stands ns _ mid (omega arith) (ap (λ ms. get_or ms mid 0) (sym c.as-slice-numbers.ensures.value));
+      among = stands ns _ mid (omega arith) (ap (λ ms. get_or ms mid 0) (sym c.as_slice-numbers.ensures.value));
       same = c.in-Equal.ensures;
     }
 

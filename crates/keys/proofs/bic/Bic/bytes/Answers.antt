@@ -6,15 +6,15 @@ use Rattle.keys.proofs.Forms.{bic_plain}
 use Rattle.keys.specs.Same.{bic_same}
 use Rattle.keys.proofs.bic.Bic.bytes.Goals as goal
 
-pub copy-from-slice-requires : goal.copy-from-slice-requires
-copy-from-slice-requires c =
+pub copy_from_slice-requires : goal.copy_from_slice-requires
+copy_from_slice-requires c =
     let b = c.args.self in
-    sym (ap length (c.as-slice.ensures ∙ c.spell-spelling.ensures) ∙ (bic_plain (bic_text b) b.formed).0)
+    sym (ap length (c.as_slice.ensures ∙ c.spell-spelling.ensures) ∙ (bic_plain (bic_text b) b.formed).0)
 
 pub returns : goal.returns
 returns c =
     let b = c.args.self in
-    let text = c.copy-from-slice.ensures.after ∙ c.as-slice.ensures ∙ c.spell-spelling.ensures in
+    let text = c.copy_from_slice.ensures.after ∙ c.as_slice.ensures ∙ c.spell-spelling.ensures in
     record {
       text = text;
       formed = ap bic_formed text ∙ b.formed;

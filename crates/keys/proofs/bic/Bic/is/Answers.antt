@@ -5,11 +5,11 @@ use Rattle.keys.specs.Held.{same_bic}
 use Rattle.keys.specs.Same.{apart, text_decides, bic_decides}
 use Rattle.keys.proofs.bic.Bic.is.Goals as goal
 
-pub returns-in-default : goal.returns-in-default
-returns-in-default c =
+pub returns-in_default : goal.returns-in_default
+returns-in_default c =
     let a = c.args.self in
     let b = c.args.other in
-    let answer : same_bic a b ≡ false = ne_eqb a.code b.code (apart c.compare.result a.code b.code (a ≡ b) c.in-default.not-Equal c.compare.ensures) in
+    let answer : same_bic a b ≡ false = ne_eqb a.code b.code (apart c.compare.result a.code b.code (a ≡ b) c.in_default.not-Equal c.compare.ensures) in
     record {
       answer = sym answer;
       same = Decides-at false (same_bic a b) (sym answer) (bic_decides a b);

@@ -6,26 +6,26 @@ use Rattle.keys.specs.Packs.{Bytes, spelled_same, number_under}
 use Rattle.keys.proofs.Forms.{bic_plain}
 use Rattle.keys.proofs.bic.Bic.read.Goals as goal
 
-pub overflow-cast-result : goal.overflow-cast-result
-overflow-cast-result c =
+pub overflow_cast-result : goal.overflow_cast-result
+overflow_cast-result c =
     let t = c.args.text.now in
     let form : bic_formed t ≡ true = search rules in
-    let bytes : Bytes t = λ k _. omega (arith, c.type-inv.text k) in
+    let bytes : Bytes t = λ k _. omega (arith, c.type_inv.text k) in
     let under : number_from_digits 256 t < 256 ^ 8 = subst (λ m. number_from_digits 256 t < 256 ^ m) (bic_plain t form).0 (number_under t bytes) in
     omega (arith, c.packed.ensures)
 
-pub invariant-of-result : goal.invariant-of-result
-invariant-of-result c =
+pub invariant_of-result : goal.invariant_of-result
+invariant_of-result c =
     let t = c.args.text.now in
     let form : bic_formed t ≡ true = search rules in
-    let bytes : Bytes t = λ k _. omega (arith, c.type-inv.text k) in
+    let bytes : Bytes t = λ k _. omega (arith, c.type_inv.text k) in
     let back : spelled c.packed.result ≡ t = spelled_same t c.packed.result bytes (bic_plain t form).1 c.packed.ensures in
-    (ap bic_formed back ∙ form, tt)
+    record { formed = ap bic_formed back ∙ form }
 
 pub returns : goal.returns
 returns c =
     let t = c.args.text.now in
     let form : bic_formed t ≡ true = search rules in
-    let bytes : Bytes t = λ k _. omega (arith, c.type-inv.text k) in
+    let bytes : Bytes t = λ k _. omega (arith, c.type_inv.text k) in
     let back : spelled c.packed.result ≡ t = spelled_same t c.packed.result bytes (bic_plain t form).1 c.packed.ensures in
     ap (λ u. Some u) back ∙ ap (λ b. cond b (Some t) None) (sym form)

@@ -16,7 +16,7 @@ returns-in-Ok c =
     let ns = entries d.by_bic in
     let b = c.args.bic in
     let n : ℕ = c.in-Ok.number in
-    let at : bic_at hs n ≡ Some b = subst (λ us. bic_at us n ≡ Some b) c.as-slice.ensures.value c.in-Ok.ensures.same in
+    let at : bic_at hs n ≡ Some b = subst (λ us. bic_at us n ≡ Some b) c.as_slice.ensures.value c.in-Ok.ensures.same in
     let alone : (m : ℕ) → bic_at hs m ≡ Some b → m ≡ n = λ m e. complete_apart lesser ks ns (λ x. le-ltb x.code x.code (omega arith)) b ((d.known, d.rising), d.full) m n e at in
     record { place = sym (place_found hs n b at alone); meaning = at }
 
@@ -27,6 +27,6 @@ returns-in-Err c =
     let ks = map bic_of hs in
     let ns = entries d.by_bic in
     let b = c.args.bic in
-    let lacks : Lacks ks ns b = subst (λ us. Lacks (map bic_of us) ns b) c.as-slice.ensures.value c.in-Err.ensures.1 in
+    let lacks : Lacks ks ns b = subst (λ us. Lacks (map bic_of us) ns b) c.as_slice.ensures.value c.in-Err.ensures.1 in
     let none : (n : ℕ) → bic_at hs n ≡ Some b → ⊥ = complete_lacks lesser ks ns b ((d.known, d.rising), d.full) lacks in
     record { place = sym (place_none hs b none); meaning = none }

@@ -11,46 +11,45 @@ use Rattle.settings.proofs.Found.{clearing_apart}
 use Rattle.settings.proofs.Opens.{no_date, no_currency, no_clearing, no_houses, all_kept, Housed, houses_kept_lem}
 use Rattle.settings.proofs.settings.Settings.open.Goals as goal
 
-pub returns-in-default : goal.returns-in-default
-returns-in-default c =
+pub returns-in_default : goal.returns-in_default
+returns-in_default c =
     let o = c.args.opening.now in
-    no_date o (cond_none {A = ℕ × ℕ × ℕ} (valid_date o.year o.month o.day) (o.year, o.month, o.day) c.in-default.ensures)
+    no_date o (cond_none {A = ℕ × ℕ × ℕ} (valid_date o.year o.month o.day) (o.year, o.month, o.day) c.in_default.ensures)
 
-pub returns-in-default-new : goal.returns-in-default-new
-returns-in-default-new c =
+pub returns-in_default-new : goal.returns-in_default-new
+returns-in_default-new c =
     let o = c.args.opening.now in
-    no_currency o (cond_none (currency_formed o.currency.now) o.currency.now c.in-default-new.ensures)
+    no_currency o (cond_none (currency_formed o.currency.now) o.currency.now c.in_default-new.ensures)
 
-pub returns-in-default-read : goal.returns-in-default-read
-returns-in-default-read c =
+pub returns-in_default-read : goal.returns-in_default-read
+returns-in_default-read c =
     let o = c.args.opening.now in
-    no_clearing o (formed_none bic_formed o.clearing.now c.in-default-read.ensures)
+    no_clearing o (formed_none bic_formed o.clearing.now c.in_default-read.ensures)
 
-pub returns-then-not-are-houses-kept : goal.returns-then-not-are-houses-kept
-returns-then-not-are-houses-kept c =
+pub returns-then-not-are_houses_kept : goal.returns-then-not-are_houses_kept
+returns-then-not-are_houses_kept c =
     let o = c.args.opening.now in
     let read = formed_some bic_formed o.clearing.now (bic_text c.in-Some-read.clearing) c.in-Some-read.ensures in
-    no_houses o (ap (λ t. houses_kept t o.houses.now) (sym read.1) ∙ sym c.if-not-are-houses-kept.ensures)
+    no_houses o (ap (λ t. houses_kept t o.houses.now) (sym read.1) ∙ sym c.if-not-are_houses_kept.ensures)
 
 pub build-requires : goal.build-requires
 build-requires c =
     let o = c.args.opening.now in
-    let housed = houses_kept_lem (bic_text c.in-Some-read.clearing) o.houses.now (sym c.if-not-are-houses-kept.ensures) in
+    let housed = houses_kept_lem (bic_text c.in-Some-read.clearing) o.houses.now (sym c.if-not-are_houses_kept.ensures) in
     record { few = housed.few; kept = housed.kept }
 
-pub invariant-of-result : goal.invariant-of-result
-invariant-of-result c =
+pub invariant_of-result : goal.invariant_of-result
+invariant_of-result c =
     let o = c.args.opening.now in
     let own = bic_text c.in-Some-read.clearing in
     let hs = vec_items c.in-Ok.directory.houses in
-    let housed = houses_kept_lem own o.houses.now (sym c.if-not-are-houses-kept.ensures) in
-    let size = sym (same_size hs o.houses.now c.in-Ok.ensures) in (
-      subst (λ n. 1 ≤ n) size housed.some,
-      (
-        subst (λ n. n ≤ 64) size housed.few,
-        (clearing_apart hs o.houses.now c.in-Some-read.clearing own no_entry c.in-Ok.ensures refl housed.apart, tt),
-      ),
-    )
+    let housed = houses_kept_lem own o.houses.now (sym c.if-not-are_houses_kept.ensures) in
+    let size = sym (same_size hs o.houses.now c.in-Ok.ensures) in
+    record {
+      some = subst (λ n. 1 ≤ n) size housed.some;
+      few = subst (λ n. n ≤ 64) size housed.few;
+      apart = clearing_apart hs o.houses.now c.in-Some-read.clearing own no_entry c.in-Ok.ensures refl housed.apart;
+    }
 
 pub returns-in-Ok : goal.returns-in-Ok
 returns-in-Ok c =
@@ -59,7 +58,7 @@ returns-in-Ok c =
     let date = cond_some {A = ℕ × ℕ × ℕ} (valid_date o.year o.month o.day) (d.year, d.month, d.day) (o.year, o.month, o.day) c.in-Some.ensures in
     let currency = cond_some (currency_formed o.currency.now) c.in-Some-new.currency.letters o.currency.now c.in-Some-new.ensures in
     let read = formed_some bic_formed o.clearing.now (bic_text c.in-Some-read.clearing) c.in-Some-read.ensures in
-    let housed = ap (λ t. houses_kept t o.houses.now) (sym read.1) ∙ sym c.if-not-are-houses-kept.ensures in (
+    let housed = ap (λ t. houses_kept t o.houses.now) (sym read.1) ∙ sym c.if-not-are_houses_kept.ensures in (
       all_kept o date.0 currency.0 read.0 housed,
       record {
         year = ap (λ p. p.0) date.1;
@@ -78,4 +77,4 @@ returns-in-Err c =
     let date = cond_some {A = ℕ × ℕ × ℕ} (valid_date o.year o.month o.day) (d.year, d.month, d.day) (o.year, o.month, o.day) c.in-Some.ensures in
     let currency = cond_some (currency_formed o.currency.now) c.in-Some-new.currency.letters o.currency.now c.in-Some-new.ensures in
     let read = formed_some bic_formed o.clearing.now (bic_text c.in-Some-read.clearing) c.in-Some-read.ensures in
-    all_kept o date.0 currency.0 read.0 (ap (λ t. houses_kept t o.houses.now) (sym read.1) ∙ sym c.if-not-are-houses-kept.ensures)
+    all_kept o date.0 currency.0 read.0 (ap (λ t. houses_kept t o.houses.now) (sym read.1) ∙ sym c.if-not-are_houses_kept.ensures)

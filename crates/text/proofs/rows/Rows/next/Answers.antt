@@ -7,7 +7,7 @@ pub returns : goal.returns
 returns c =
     let some : 0 < length c.args.self.now.rest.now = search rules in
     record {
-      rows = row_next _ _ _ _ _ some c.find-crlf-k.ensures c.front.ensures c.skip.ensures c.skip-self.ensures;
-      formed = good_next _ _ _ _ some c.find-crlf-k.ensures c.skip.ensures c.skip-self.ensures;
+      rows = row_next _ _ _ _ _ some c.find_crlf-k.ensures c.front.ensures c.skip.ensures c.skip-self.ensures;
+      formed = good_next _ _ _ _ some c.find_crlf-k.ensures c.skip.ensures c.skip-self.ensures;
       shorter = row_shorter _ _ _ _ some c.skip.ensures c.skip-self.ensures;
     }
