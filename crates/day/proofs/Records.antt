@@ -1,12 +1,12 @@
 -- Writes to the records keep what the day keeps of them.
-use Rattle.std.proofs.Common.{◌≡◌, ℕ, ◌-◌, ◌<◌, ◌≤◌, Bool, true, false, cond, not, ◌&&◌, ◌||◌, eqb, ltb, leb, List, ◌++◌, map, length, get_or, take, drop, set, Some, None, Option, sym, refl, ap, ◌∙◌, subst, inl, inr, arith, MatchOption}
+use Rattle.std.proofs.Common.{◌≡◌, ℕ, ◌-◌, ◌<◌, ◌≤◌, Bool, true, false, cond, not, ◌&&◌, ◌||◌, eqb, ltb, leb, List, ◌++◌, map, length, take, drop, set, Some, None, Option, sym, ap, ◌∙◌, subst, inl, inr, arith, MatchOption}
 use Rattle.std.proofs.lemmas.List.{get_or-set_same, get_or-set_other, get_or-take, length-take-le, take_at, drop_at, length-map}
 use Rattle.std.proofs.lemmas.Bool.{cases_eq, cases_Bool, both_ways, false≢true, and_parts, ltb-true, leb-true, eqb-false, not-true}
 use Rattle.records.specs.Records.{record_at, blank}
 use Rattle.records.specs.States.{waits}
 use Rattle.records.specs.declared.recorded.Record.{Record}
 use Rattle.records.specs.declared.state.State.TheVariants.{SettledAfternoon, Excluded}
-use Rattle.netting.specs.Payments.{waiting, is_from, is_to, most_records, most_cents, Proper, Listed}
+use Rattle.netting.specs.Payments.{is_from, is_to, most_records, most_cents, Proper, Listed}
 use Rattle.day.specs.Fits.{is_other, is_proper, Fits}
 use Rattle.day.specs.Changes.{in_state, settled_at_last, excluded_with}
 

@@ -1,8 +1,6 @@
 -- What a settlement is answered and leaves, in a day of so many houses.
 use Rattle.std.specs.Prelude.{◌≡◌, ℕ, ◌<◌, Bool, true, false, ◌⊎◌, List, map, length, Some, ◌≢◌}
-use Rattle.records.specs.declared.recorded.Record.{Record}
 use Rattle.netting.specs.Payments.{waiting}
-use Rattle.netting.specs.Selections.{marked}
 use Rattle.netting.specs.Outcomes.{Booked, Morning, ShortOfAll}
 use Rattle.day.specs.Phases.{is_calculated}
 use Rattle.day.specs.Changes.{stamp, settled_at_last}

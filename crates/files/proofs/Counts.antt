@@ -1,5 +1,5 @@
 -- The number of one, two or three digits. Assumes nothing.
-use Rattle.std.proofs.Common.{◌≡◌, ℕ, ◌+◌, ◌-◌, ◌*◌, List, [], ◌∷◌, length, get_or, Some, None, sym, refl, ap, ◌∙◌, arith}
+use Rattle.std.proofs.Common.{◌≡◌, ℕ, ◌+◌, ◌-◌, ◌*◌, List, [], ◌∷◌, length, get_or, Some, ap, arith}
 use Rattle.files.specs.Stated.{count_of}
 
 pub count_one : (ds : List ℕ) → length ds ≡ 1 → Some (get_or ds 0 0 - 48) ≡ count_of ds

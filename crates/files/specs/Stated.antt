@@ -1,5 +1,5 @@
 -- What a control message states in its row of count, currency and total.
-use Rattle.std.specs.Prelude.{◌≡◌, ℕ, ◌<◌, ◌≤◌, Bool, true, cond, ◌&&◌, List, [], ◌∷◌, ◌++◌, length, take, drop, Some, None, Option, nat_le}
+use Rattle.std.specs.Prelude.{◌≡◌, ℕ, ◌<◌, ◌≤◌, true, cond, ◌&&◌, List, [], ◌∷◌, ◌++◌, length, take, drop, Some, None, Option, nat_le}
 use Rattle.std.specs.Str.{bytes_eq}
 use Rattle.text.specs.Chars.{belongs, every, leading}
 use Rattle.text.specs.declared.class.Class.TheVariants.{Digit}

@@ -8,7 +8,7 @@ use Rattle.std.proofs.lemmas.Slice.Eq.{bytes_eq-Decides}
 use Rattle.codes.specs.Bics.{bic_formed}
 use Rattle.keys.specs.Held.{bic_text, same_bic}
 use Rattle.keys.specs.declared.bic.Bic.{Bic}
-use Rattle.keys.specs.Same.{text_decides}
+use Rattle.keys.proofs.Same.{text_decides}
 use Rattle.settings.specs.Places.{place_of}
 use Rattle.settings.specs.declared.house.House.{House}
 use Rattle.headers.specs.Headers.{place_named}

@@ -1,13 +1,13 @@
 -- What a text of the form of a BIC or a reference is: of its length, with no 0 among its bytes. Assumes nothing.
-use Rattle.std.proofs.Common.{◌≡◌, ℕ, zero, suc, ◌+◌, ◌<◌, ◌≤◌, Bool, true, false, cond, ◌&&◌, List, [], ◌∷◌, length, get_or, take, drop, Some, None, Option, sym, refl, ap, ◌∙◌, subst, not-suc-le-zero, arith}
-use Rattle.std.proofs.lemmas.Bool.{false≢true, and_parts, and_from, eqb-true, leb-true}
+use Rattle.std.proofs.Common.{◌≡◌, ℕ, zero, suc, ◌<◌, ◌≤◌, Bool, true, false, cond, List, [], ◌∷◌, length, take, drop, Some, None, sym, refl, subst, not-suc-le-zero, arith}
+use Rattle.std.proofs.lemmas.Bool.{false≢true, and_parts, eqb-true, leb-true}
 use Rattle.std.proofs.lemmas.List.{drop-drop}
 use Rattle.text.specs.Chars.{belongs, every}
 use Rattle.text.specs.declared.class.Class.{Class}
 use Rattle.text.specs.declared.class.Class.TheVariants.{Digit, Capital, Alphanumeric, Permitted}
 use Rattle.codes.specs.Bics.{bic_formed}
 use Rattle.keys.specs.Texts.{reference_form, formed_only}
-use Rattle.keys.specs.Packs.{Plain}
+use Rattle.keys.proofs.Packs.{Plain}
 
 -- 0 is in no class of characters
 some : (c : Class) (b : ℕ) → belongs c b ≡ true → 0 < b

@@ -2,4 +2,3 @@ pub mod Texts
 pub mod Held
 pub mod Orders
 pub mod Same
-pub mod Packs

@@ -1,7 +1,6 @@
 -- What the calls do to the sums over the records.
 use Rattle.std.proofs.Common.{◌≡◌, ℕ, zero, suc, ◌+◌, ◌<◌, Bool, true, false, cond, ◌&&◌, ◌||◌, List, [], ◌∷◌, ◌++◌, map, length, get_or, drop, sym, refl, ap, ◌∙◌, inl, inr, arith}
 use Rattle.std.proofs.lemmas.Bool.{cases_Bool, both_ways, false≢true, and_parts}
-use Rattle.records.specs.Records.{record_at}
 use Rattle.records.specs.States.{waits, is_rejected, is_morning, is_settled, is_excluded}
 use Rattle.records.specs.declared.recorded.Record.{Record}
 use Rattle.records.specs.declared.state.State.{State}

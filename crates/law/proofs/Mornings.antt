@@ -1,5 +1,5 @@
 -- Two keepers with the same covers settle the same morning.
-use Rattle.std.proofs.Common.{◌≡◌, ℕ, suc, ◌<◌, Bool, cond, ◌⊎◌, List, [], ◌∷◌, length, get_or, sym, refl, ap, ◌∙◌, subst, inl, inr, arith}
+use Rattle.std.proofs.Common.{◌≡◌, ℕ, suc, Bool, cond, ◌⊎◌, List, [], ◌∷◌, sym, refl, ap, ◌∙◌, subst, inl, inr, arith}
 use Rattle.records.specs.declared.recorded.Record.{Record}
 use Rattle.records.specs.declared.state.State.TheVariants.{SettledMorning}
 use Rattle.netting.specs.Selections.{marked, Same}

@@ -1,21 +1,17 @@
 -- The laws hold wherever events lead from an opening.
 use Rattle.std.proofs.Common.{◌≡◌, ℕ, ◌+◌, Bool, true, false, cond, eqb, ltb, ◌⊎◌, List, [], ◌∷◌, ◌++◌, map, length, get_or, set, MatchBool, Option, sym, refl, ap, ◌∙◌, subst, inl, inr, arith}
 use Rattle.std.proofs.lemmas.Bool.Decides.{eqb_tells}
-use Rattle.std.proofs.lemmas.Bool.{cases_Bool}
-use Rattle.keeper.specs.declared.answer.PayInAnswer.{PayInAnswer}
 use Rattle.keeper.specs.declared.answer.PayInAnswer.TheVariants as paid
 use Rattle.records.specs.declared.recorded.Record.{Record}
 use Rattle.day.specs.Phases.{phase_number}
 use Rattle.day.specs.Numbers.{calculate_number, exclude_number}
 use Rattle.day.specs.Answers.{calculate_answer, calculated_from, exclude_answer}
-use Rattle.day.specs.Changes.{stamp, settled_at_last, excluded_with}
+use Rattle.day.specs.Changes.{settled_at_last, excluded_with}
 use Rattle.day.specs.Scene.{Scene}
-use Rattle.day.specs.Settling.{Settles, Unmoved, MorningDone, AfternoonDone}
+use Rattle.day.specs.Settling.{Unmoved, MorningDone, AfternoonDone}
 use Rattle.day.specs.declared.phase.Phase.{Phase}
 use Rattle.day.specs.declared.phase.Phase.TheVariants.{MorningCollecting, MorningCalculated, AfternoonCollecting, AfternoonCalculated, Over}
-use Rattle.day.specs.declared.answer.CalculateAnswer.{CalculateAnswer}
 use Rattle.day.specs.declared.answer.CalculateAnswer.TheVariants as calculate
-use Rattle.day.specs.declared.answer.SettleAnswer.{SettleAnswer}
 use Rattle.day.specs.declared.answer.SettleAnswer.TheVariants as settle
 use Rattle.day.specs.declared.answer.ExcludeAnswer.{ExcludeAnswer}
 use Rattle.day.specs.declared.answer.ExcludeAnswer.TheVariants as exclude

@@ -1,12 +1,10 @@
 -- Each call keeps what holds of a day.
-use Rattle.std.proofs.Common.{◌≡◌, ℕ, ◌+◌, ◌<◌, ◌≤◌, Bool, true, false, cond, ◌&&◌, eqb, ◌≢◌, ◌⊎◌, List, [], ◌∷◌, ◌++◌, map, length, get_or, take, set, sym, refl, ap, ◌∙◌, subst, inl, inr, arith}
+use Rattle.std.proofs.Common.{◌≡◌, ℕ, ◌+◌, ◌<◌, Bool, false, cond, eqb, ◌≢◌, ◌⊎◌, List, [], ◌∷◌, ◌++◌, map, length, get_or, take, set, sym, refl, ap, ◌∙◌, subst, inl, inr, arith}
 use Rattle.std.proofs.lemmas.Bool.Decides.{eqb_tells, nat_tests}
 use Rattle.std.proofs.lemmas.List.{length-map, length-append, length-set, map-append, append-nil, take_all, get_or_past, get_or-set_same, get_or-set_other}
 use Rattle.std.proofs.lemmas.Bool.{and_right, false≢true}
-use Rattle.keeper.specs.declared.answer.PayInAnswer.{PayInAnswer}
 use Rattle.keeper.specs.declared.answer.PayInAnswer.TheVariants as paid
 use Rattle.records.specs.declared.recorded.Record.{Record}
-use Rattle.records.specs.declared.state.State.{State}
 use Rattle.netting.specs.Payments.{waiting, is_from, is_to}
 use Rattle.netting.specs.Selections.{marked, sent, received, Chosen}
 use Rattle.netting.specs.Outcomes.{Booked, Morning}
@@ -15,7 +13,7 @@ use Rattle.day.specs.Changes.{stamp, settled_at_last, excluded_with}
 use Rattle.day.specs.declared.answer.CalculateAnswer.TheVariants as calculate
 use Rattle.day.specs.declared.answer.SettleAnswer.TheVariants as settle
 use Rattle.day.specs.declared.answer.ExcludeAnswer.TheVariants as exclude
-use Rattle.law.specs.History.{Event, handed_in, calculated, settled, excluded, paid_in, taken, settles, is_settle, control_of, messages_of, pay_in_for, over_taken, covers_paid_by, covers_paid_in}
+use Rattle.law.specs.History.{Event, handed_in, calculated, settled, excluded, paid_in, taken, settles, is_settle, control_of, messages_of, pay_in_for, over_taken, covers_paid_by}
 use Rattle.law.specs.Runs.{sum_of, Untouched}
 use Rattle.law.specs.Laws.{settled_by, settled_to, as_handed_in, in_morning, Judged, Kept}
 use Rattle.law.proofs.Sums.{sum_of_append}

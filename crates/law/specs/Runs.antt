@@ -1,5 +1,5 @@
 -- What each call does to a day and its keeper, by the definitions of its own promise; and runs of calls.
-use Rattle.std.specs.Prelude.{◌≡◌, ℕ, ◌+◌, ◌<◌, true, false, List, [], ◌∷◌, ◌++◌, length, None, MatchBool, ◌==◌}
+use Rattle.std.specs.Prelude.{◌≡◌, ℕ, ◌+◌, ◌<◌, false, List, [], ◌∷◌, ◌++◌, length, None, MatchBool, ◌==◌}
 use Rattle.keeper.specs.PayIns.{pay_in_answer, covers_paid}
 use Rattle.records.specs.Records.{record_at}
 use Rattle.records.specs.States.{is_settled, is_excluded}

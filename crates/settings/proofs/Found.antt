@@ -1,10 +1,10 @@
 -- Where a house is found. Assumes nothing.
-use Rattle.std.proofs.Common.{◌≡◌, ℕ, zero, suc, ◌<◌, ◌≤◌, Bool, true, false, cond, List, [], ◌∷◌, map, length, get_or, is_some, Some, None, Option, sym, refl, ap, ◌∙◌, subst, arith}
+use Rattle.std.proofs.Common.{◌≡◌, ℕ, zero, suc, ◌<◌, ◌≤◌, false, cond, List, [], ◌∷◌, map, length, get_or, is_some, Some, None, sym, refl, ap, ◌∙◌, subst, arith}
 use Rattle.std.specs.Option.{option_map}
 use Rattle.std.proofs.lemmas.List.{get_or-map, get_or_past, length-map}
 use Rattle.std.proofs.lemmas.Bool.{eq-eqb, ne_eqb}
 use Rattle.keys.specs.declared.bic.Bic.{Bic}
-use Rattle.keys.specs.Held.{bic_text, same_bic}
+use Rattle.keys.specs.Held.{bic_text}
 use Rattle.keys.specs.Same.{bic_same}
 use Rattle.settings.specs.declared.house.House.{House}
 use Rattle.settings.specs.declared.opening.HouseEntry.{HouseEntry}

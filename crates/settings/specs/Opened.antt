@@ -1,5 +1,5 @@
 -- What opening answers, and what settings hold. Assumes nothing.
-use Rattle.std.specs.Prelude.{◌≡◌, ℕ, true, false, List, map, Ok, Err, vec_items, Result}
+use Rattle.std.specs.Prelude.{◌≡◌, true, false, List, map, Ok, Err, vec_items, Result}
 use Rattle.keys.specs.Held.{bic_text}
 use Rattle.settings.specs.declared.answers.OpenDenial.{OpenDenial}
 use Rattle.settings.specs.declared.answers.OpenDenial.TheVariants.{BreaksRule, NoMemory}

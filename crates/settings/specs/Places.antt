@@ -1,5 +1,5 @@
 -- The houses as they are held, and where one stands. Assumes nothing.
-use Rattle.std.specs.Prelude.{ℕ, suc, Bool, true, false, cond, List, [], ◌∷◌, map, Some, None, Option, slice_index_or}
+use Rattle.std.specs.Prelude.{ℕ, suc, Bool, false, cond, List, [], ◌∷◌, map, Some, None, Option, slice_index_or}
 use Rattle.std.specs.Option.{option_map}
 use Rattle.index.specs.Order.{key_of}
 use Rattle.keys.specs.declared.bic.Bic.{Bic}

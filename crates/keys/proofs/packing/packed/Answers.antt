@@ -1,8 +1,8 @@
-use Rattle.std.proofs.Common.{◌≡◌, ℕ, ap, ◌∙◌, arith}
+use Rattle.std.proofs.Common.{ℕ, ap, ◌∙◌, arith}
 use Rattle.std.specs.Int.Digits.{number_from_digits}
 use Rattle.std.proofs.lemmas.Int.Digits.{number_more}
 use Rattle.std.proofs.lemmas.List.{take_all}
-use Rattle.keys.specs.Packs.{Bytes, number_room}
+use Rattle.keys.proofs.Packs.{Bytes, number_room}
 use Rattle.keys.proofs.packing.packed.Goals as goal
 
 pub overflow_mul-n : goal.overflow_mul-n

@@ -1,4 +1,4 @@
-use Rattle.std.proofs.Common.{sym, ◌∙◌, rules}
+use Rattle.std.proofs.Common.{sym, ◌∙◌}
 use Rattle.keys.specs.Held.{bic_text}
 use Rattle.settings.proofs.Steps.{no_entry, among_yes, among_no, among_end}
 use Rattle.settings.proofs.rules.is_among.Goals as goal

@@ -2,7 +2,7 @@ use Rattle.std.proofs.Common.{◌≡◌, true, ◌∷◌, drop, sym, ap, ◌∙�
 use Rattle.std.proofs.lemmas.Bool.{and_parts}
 use Rattle.text.specs.Rows.{rows_of}
 use Rattle.text.specs.Texts.{good}
-use Rattle.cuts.specs.Cuts.{whole, leads}
+use Rattle.cuts.specs.Cuts.{leads}
 use Rattle.cuts.proofs.Pieces.{field_next, no_tag, whole_after}
 use Rattle.cuts.proofs.tagged.Fields.next.Goals as goal
 

@@ -1,7 +1,7 @@
-use Rattle.std.proofs.Common.{◌≡◌, length, sym, ap, ◌∙◌}
+use Rattle.std.proofs.Common.{length, sym, ap, ◌∙◌}
 use Rattle.codes.specs.Bics.{bic_formed}
 use Rattle.keys.specs.Held.{bic_text}
-use Rattle.keys.specs.Packs.{same_from_spelled}
+use Rattle.keys.proofs.Packs.{same_from_spelled}
 use Rattle.keys.proofs.Forms.{bic_plain}
 use Rattle.keys.specs.Same.{bic_same}
 use Rattle.keys.proofs.bic.Bic.bytes.Goals as goal

@@ -2,7 +2,7 @@ use Rattle.std.proofs.Common.{◌≡◌, false, sym}
 use Rattle.std.proofs.lemmas.Bool.{ne_eqb}
 use Rattle.std.proofs.lemmas.Bool.Decides.{Decides-at}
 use Rattle.keys.specs.Held.{same_bic}
-use Rattle.keys.specs.Same.{apart, text_decides, bic_decides}
+use Rattle.keys.proofs.Same.{apart, text_decides, bic_decides}
 use Rattle.keys.proofs.bic.Bic.is.Goals as goal
 
 pub returns-in_default : goal.returns-in_default

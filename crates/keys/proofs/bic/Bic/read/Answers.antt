@@ -1,8 +1,8 @@
-use Rattle.std.proofs.Common.{◌≡◌, ℕ, ◌^◌, ◌<◌, true, cond, Some, None, sym, ap, ◌∙◌, subst, arith, rules}
+use Rattle.std.proofs.Common.{◌≡◌, ◌^◌, ◌<◌, true, cond, Some, None, sym, ap, ◌∙◌, subst, arith, rules}
 use Rattle.std.specs.Int.Digits.{number_from_digits}
 use Rattle.codes.specs.Bics.{bic_formed}
 use Rattle.keys.specs.Texts.{spelled}
-use Rattle.keys.specs.Packs.{Bytes, spelled_same, number_under}
+use Rattle.keys.proofs.Packs.{Bytes, spelled_same, number_under}
 use Rattle.keys.proofs.Forms.{bic_plain}
 use Rattle.keys.proofs.bic.Bic.read.Goals as goal
 

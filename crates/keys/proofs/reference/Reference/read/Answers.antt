@@ -1,6 +1,6 @@
 use Rattle.std.proofs.Common.{◌≡◌, true, cond, Some, None, sym, ap, ◌∙◌, arith, rules}
 use Rattle.keys.specs.Texts.{spelled, reference_form}
-use Rattle.keys.specs.Packs.{Bytes, spelled_same}
+use Rattle.keys.proofs.Packs.{Bytes, spelled_same}
 use Rattle.keys.proofs.Forms.{reference_plain}
 use Rattle.keys.proofs.reference.Reference.read.Goals as goal
 

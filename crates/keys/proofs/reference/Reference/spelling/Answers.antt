@@ -1,6 +1,6 @@
-use Rattle.std.proofs.Common.{◌≡◌, ap, ◌∙◌}
+use Rattle.std.proofs.Common.{ap, ◌∙◌}
 use Rattle.keys.specs.Texts.{reference_form}
-use Rattle.keys.specs.Packs.{same_from_spelled}
+use Rattle.keys.proofs.Packs.{same_from_spelled}
 use Rattle.keys.specs.Same.{reference_same}
 use Rattle.keys.proofs.reference.Reference.spelling.Goals as goal
 

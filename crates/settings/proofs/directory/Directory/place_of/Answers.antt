@@ -1,7 +1,7 @@
 use Rattle.std.proofs.Common.{◌≡◌, ℕ, map, Some, vec_items, sym, subst, arith}
 use Rattle.std.proofs.lemmas.Bool.{le-ltb}
 use Rattle.index.specs.Contents.{entries}
-use Rattle.index.specs.Order.{key_of, Lacks, Complete}
+use Rattle.index.specs.Order.{Lacks}
 use Rattle.index.proofs.Completes.{complete_lacks, complete_apart}
 use Rattle.keys.specs.Orders.{lesser}
 use Rattle.settings.specs.Places.{bic_of, bic_at}

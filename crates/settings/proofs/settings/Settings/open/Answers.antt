@@ -1,14 +1,14 @@
-use Rattle.std.proofs.Common.{◌≡◌, ℕ, ◌≤◌, true, length, vec_items, sym, refl, ap, ◌∙◌, subst}
+use Rattle.std.proofs.Common.{ℕ, ◌≤◌, vec_items, sym, refl, ap, ◌∙◌, subst}
 use Rattle.codes.specs.Bics.{bic_formed}
 use Rattle.keys.specs.Held.{bic_text}
 use Rattle.keys.proofs.Forms.{cond_some, cond_none, formed_some, formed_none}
 use Rattle.values.specs.Calendar.{valid_date}
 use Rattle.values.specs.Currencies.{currency_formed}
-use Rattle.settings.specs.Rules.{houses_kept, rules_kept}
+use Rattle.settings.specs.Rules.{houses_kept}
 use Rattle.settings.proofs.Steps.{no_entry}
 use Rattle.settings.proofs.Builds.{same_size}
 use Rattle.settings.proofs.Found.{clearing_apart}
-use Rattle.settings.proofs.Opens.{no_date, no_currency, no_clearing, no_houses, all_kept, Housed, houses_kept_lem}
+use Rattle.settings.proofs.Opens.{no_date, no_currency, no_clearing, no_houses, all_kept, houses_kept_lem}
 use Rattle.settings.proofs.settings.Settings.open.Goals as goal
 
 pub returns-in_default : goal.returns-in_default
