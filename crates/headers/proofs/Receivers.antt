@@ -1,5 +1,5 @@
 -- The receiver of a header that passes: a house, and not the sender. Assumes nothing.
-use Rattle.std.proofs.Common.{◌≡◌, ℕ, zero, suc, Bool, true, false, cond, not, ◌||◌, eqb, List, [], ◌∷◌, is_some, Some, None, Ok, Err, Option, Result, sym, refl, ap, ◌∙◌, subst, arith}
+use Rattle.std.proofs.Common.{◌≡◌, ℕ, suc, Bool, true, false, cond, not, ◌||◌, eqb, List, [], ◌∷◌, is_some, Some, None, Ok, Err, Option, Result, refl, ap, subst, arith}
 use Rattle.std.specs.Option.{option_map}
 use Rattle.std.specs.Str.{bytes_eq}
 use Rattle.std.proofs.lemmas.Bool.{or_parts, eqb-false, false≢true}
@@ -10,7 +10,7 @@ use Rattle.keys.specs.Held.{bic_text}
 use Rattle.settings.specs.Places.{bic_at, suspended_at}
 use Rattle.settings.specs.declared.house.House.{House}
 use Rattle.headers.specs.Headers.{in_branch, place_named, fit, receiver_at, or_first, HeaderParts, header_faults, header_in, header_of}
-use Rattle.headers.specs.Tables.{first_of, unless}
+use Rattle.headers.specs.Tables.{first_of}
 use Rattle.headers.proofs.Tables.{ok_parts, none_fails}
 
 -- the place of a house that is named is that of a house

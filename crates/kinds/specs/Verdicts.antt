@@ -1,5 +1,5 @@
 -- The verdict on a message of any kind.
-use Rattle.std.specs.Prelude.{ℕ, cond, List, [], Some, None, Ok, Err, Option, Result, slice_index_or}
+use Rattle.std.specs.Prelude.{ℕ, cond, List, None, Ok, Err, Option, Result, slice_index_or}
 use Rattle.cuts.specs.Cuts.{Parts}
 use Rattle.faults.specs.declared.code.Code.TheVariants.{F04}
 use Rattle.faults.specs.declared.code.Fault.{Fault}

@@ -1,12 +1,10 @@
 -- What is known of fields whose checks pass. Assumes nothing.
-use Rattle.std.proofs.Common.{◌≡◌, ℕ, zero, suc, ◌≤◌, Bool, true, false, cond, not, eqb, ltb, List, [], ◌∷◌, length, get_or, is_some, Some, None, Ok, Err, Option, Result, sym, refl, ap, ◌∙◌, subst, arith}
+use Rattle.std.proofs.Common.{◌≡◌, ℕ, zero, suc, ◌≤◌, Bool, true, false, cond, not, ltb, List, [], ◌∷◌, length, get_or, is_some, Some, None, Ok, Option, sym, refl, ap, ◌∙◌, subst, arith}
 use Rattle.std.specs.Option.{option_map}
 use Rattle.std.specs.Str.{bytes_eq}
 use Rattle.std.proofs.lemmas.Bool.{eqb-false, ltb-false, cond-true}
 use Rattle.cuts.specs.Cuts.{Parts}
-use Rattle.faults.specs.declared.code.Code.{Code}
 use Rattle.faults.specs.declared.code.Code.TheVariants.{F06, T09, T10, T11, T29}
-use Rattle.faults.specs.declared.code.Fault.{Fault}
 use Rattle.fields.specs.Faults.{when, first_fault, answer}
 use Rattle.fields.specs.Shapes.{Part, row}
 use Rattle.fields.specs.Value.{date_in, currency_in, amount_in, is_value, bad_amount, over_limit, or_nothing, counted_of}

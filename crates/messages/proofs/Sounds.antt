@@ -1,10 +1,9 @@
 -- Payments and returns that pass are proper. Assumes nothing.
-use Rattle.std.proofs.Common.{◌≡◌, ℕ, zero, suc, Bool, true, false, cond, ◌&&◌, ◌||◌, eqb, List, [], ◌∷◌, ◌++◌, map, length, get_or, is_some, Some, None, Ok, Err, Option, Result, sym, refl, subst, arith}
+use Rattle.std.proofs.Common.{◌≡◌, ℕ, zero, suc, Bool, true, false, cond, ◌||◌, eqb, List, [], ◌∷◌, ◌++◌, map, length, get_or, is_some, Some, None, Ok, Option, Result, sym, refl, subst, arith}
 use Rattle.std.proofs.lemmas.Bool.{and_parts, false≢true}
 use Rattle.cuts.specs.Cuts.{Parts}
 use Rattle.faults.specs.declared.code.Fault.{Fault}
 use Rattle.fields.specs.Shapes.{Part}
-use Rattle.fields.specs.declared.terms.Terms.{Terms}
 use Rattle.headers.specs.Tables.{first_of}
 use Rattle.kinds.specs.Sound.{Proper, Sound}
 use Rattle.orders.specs.Orders.{in_order, arranged, complete, left_over, placed}

@@ -6,7 +6,6 @@ use Rattle.faults.specs.declared.code.Fault.{Fault}
 use Rattle.fields.specs.Party.{party_of}
 use Rattle.fields.specs.Shapes.{Part, row, party}
 use Rattle.fields.specs.Value.{value_of, counted_of}
-use Rattle.fields.specs.declared.terms.Terms.{Terms}
 use Rattle.values.specs.Calendar.{day_of_year}
 use Rattle.values.specs.Digits.{digits}
 

@@ -1,6 +1,5 @@
 -- The readings of a message's fields, each by the field's own rules.
-use Rattle.std.specs.Prelude.{ℕ, List, [], Some, None, Ok, Err, Option, Result, slice_index_or}
-use Rattle.std.specs.Option.{option_map}
+use Rattle.std.specs.Prelude.{ℕ, List, Some, None, Ok, Err, Option, Result, slice_index_or}
 use Rattle.codes.specs.Instructions.{instruction_ok}
 use Rattle.cuts.specs.Cuts.{Parts}
 use Rattle.faults.specs.declared.code.Code.TheVariants.{F05}

@@ -1,5 +1,5 @@
 -- The verdict on a return's fields.
-use Rattle.std.specs.Prelude.{ℕ, true, not, List, [], ◌∷◌, map, Some, None, Option, Result}
+use Rattle.std.specs.Prelude.{ℕ, not, List, [], ◌∷◌, Option, Result}
 use Rattle.std.specs.Option.{option_map}
 use Rattle.std.specs.Str.{bytes_eq}
 use Rattle.cuts.specs.Cuts.{Parts}

@@ -1,4 +1,4 @@
-use Rattle.std.proofs.Common.{◌≡◌, false, sym, ap, ◌∙◌}
+use Rattle.std.proofs.Common.{◌≡◌, sym, ap, ◌∙◌}
 use Rattle.codes.specs.Bics.{bic_formed}
 use Rattle.keys.specs.Held.{bic_text}
 use Rattle.keys.proofs.Forms.{formed_some, formed_none}
