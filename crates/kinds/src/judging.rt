@@ -6,7 +6,7 @@ ghost use Rattle.kinds.specs.Sound.{PayableIf};
 ghost use Rattle.kinds.specs.Verdicts.{verdict_of};
 
 use crate::kind::Kind;
-use crate::text::{read_text, terms_of};
+use crate::reading::{read_text, terms_of};
 use faults::Fault;
 use fields::value::counted;
 use headers::Header;

@@ -5,7 +5,7 @@
 
 mod judging;
 mod kind;
-mod text;
+mod reading;
 
 pub use judging::{Passed, judge};
 pub use kind::Kind;

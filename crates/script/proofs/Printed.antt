@@ -2,7 +2,7 @@
 use Rattle.std.proofs.Common.{◌≡◌, ℕ, zero, suc, ◌+◌, ◌*◌, ◌/◌, ◌%◌, ◌^◌, ◌<◌, ◌≤◌, Bool, true, false, cond, not, eqb, ltb, leb, List, [], ◌∷◌, length, ℤ, pos, negsuc, neg_ℤ, Some, Ok, Err, decimal, Result, sym, refl, ap, ◌∙◌, subst, inl, inr, mod-lt, arith, lit<, rules}
 use lib.Signed.{mag}
 use native.Mathlib.Nat.{div-add-mod}
-use Rattle.std.specs.List.{AllByRecursion as All}
+use Rattle.std.specs.List.{AllByRecursion}
 use Rattle.std.specs.Fmt.{signed_decimal}
 use Rattle.std.proofs.lemmas.Fmt.{digits_decimal, digits_value-decimal, decimal_nonempty}
 use Rattle.std.proofs.lemmas.Str.Parse.{IsNumeralModel, numerals_by_fold}
@@ -29,7 +29,7 @@ plain_word (b ∷ w) h =
 hex_back : (d : ℕ) → d < 16 → hex_digit (hex_char d) ≡ Some d
 hex_back d h = grind (arith, nat_tests)
 
-hex_word : (bs : List ℕ) → All (λ b. b < 256) bs → spelled (in_hex bs) ≡ Ok bs
+hex_word : (bs : List ℕ) → AllByRecursion (λ b. b < 256) bs → spelled (in_hex bs) ≡ Ok bs
 hex_word [] a = refl
 hex_word (b ∷ bs) a =
     let q : 16 * (b / 16) + b % 16 ≡ b = div-add-mod b 16 in

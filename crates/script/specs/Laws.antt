@@ -1,7 +1,7 @@
 -- The laws of the language: of a line's words, of what a word spells, and of numbers.
 use Rattle.std.specs.Prelude.{◌≡◌, ℕ, ◌+◌, ◌/◌, ◌%◌, ◌<◌, true, cond, List, [], ◌∷◌, ℤ, Ok, decimal, nat_lt}
 use Rattle.std.specs.Int.Signed.{mag}
-use Rattle.std.specs.List.{flat_map, AllByRecursion as All}
+use Rattle.std.specs.List.{flat_map, AllByRecursion}
 use Rattle.std.specs.Fmt.{signed_decimal}
 use Rattle.script.specs.Numbers.{number_end, signed_end, number_of, signed_of}
 use Rattle.script.specs.Spelling.{backslash, spelled}
@@ -17,7 +17,7 @@ in_hex bs = flat_map (λ b. backslash ∷ hex_char (b / 16) ∷ hex_char (b % 16
 -- a word without a backslash spells itself, and any bytes can be spelled
 pub record SpellingLaw : Type 0 where
   pub plain : (w : List ℕ) → lacks backslash w ≡ true → spelled w ≡ Ok w
-  pub any : (bs : List ℕ) → All (λ b. b < 256) bs → spelled (in_hex bs) ≡ Ok bs
+  pub any : (bs : List ℕ) → AllByRecursion (λ b. b < 256) bs → spelled (in_hex bs) ≡ Ok bs
 
 -- a number is read back as it is printed, up to the bounds, and none beyond them is read
 pub record NumberLaw : Type 0 where

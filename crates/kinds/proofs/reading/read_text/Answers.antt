@@ -2,7 +2,7 @@ use Rattle.std.proofs.Common.{sym, ap, ◌∙◌}
 use Rattle.std.proofs.lemmas.Bool.{cond-true, cond-false}
 use Rattle.text.specs.Texts.{formed}
 use Rattle.kinds.proofs.Negations.{so_false, so_true}
-use Rattle.kinds.proofs.text.read_text.Goals as goal
+use Rattle.kinds.proofs.reading.read_text.Goals as goal
 
 pub returns-then-is_done : goal.returns-then-is_done
 returns-then-is_done g c = sym (cond-false (formed c.args.header.text.now) _ _ (so_false _ (c.if-is_done.ensures ∙ c.of-walk.ensures.some)))
