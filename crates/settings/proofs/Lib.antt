@@ -2,3 +2,4 @@ pub mod Steps
 pub mod Builds
 pub mod Found
 pub mod Opens
+pub mod Kept
