@@ -1,5 +1,5 @@
 // The account book: one balance a house. Of several short houses it names the one of lowest place.
-ghost use Rattle.std.specs.Prelude.{◌≡◌, ℕ, ◌≤◌, List, length, MatchResult};
+ghost use Rattle.std.specs.Prelude.{◌≡◌, ◌≤◌, length, MatchResult};
 ghost use Rattle.keeper.specs.Covers.{total, most_together, most_houses};
 ghost use Rattle.keeper.specs.Offers.{OfferAnswered, OfferDenied, covers_after, sittings_after};
 ghost use Rattle.books.specs.Naming.{NamesLowest};

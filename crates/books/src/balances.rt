@@ -1,5 +1,5 @@
 // The work of the account book, on a slice of balances.
-ghost use Rattle.std.specs.Prelude.{◌≡◌, ℕ, ◌≤◌, List, length, ℤ, Decides, MatchOption};
+ghost use Rattle.std.specs.Prelude.{◌≡◌, ◌≤◌, length, Decides, MatchOption};
 ghost use Rattle.keeper.specs.Covers.{total, most_together};
 ghost use Rattle.keeper.specs.Offers.{Sound, WithinLimit, Lacks, NoneShort, add_each};
 ghost use Rattle.books.specs.Naming.{Lowest};

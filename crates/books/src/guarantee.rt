@@ -1,6 +1,6 @@
 // The guarantee book: a pledge a house, which never changes, and a signed running sum beside it, first 0. A house's cover is the
 // two together. Of several short houses it names the one with the greatest shortage, in a tie the one of lowest place.
-ghost use Rattle.std.specs.Prelude.{◌≡◌, ℕ, ◌≤◌, List, length, MatchOption, MatchResult};
+ghost use Rattle.std.specs.Prelude.{◌≡◌, ◌≤◌, length, MatchOption, MatchResult};
 ghost use Rattle.keeper.specs.Covers.{total, most_together, most_houses};
 ghost use Rattle.keeper.specs.Offers.{Sound, OfferAnswered, OfferDenied, NoneShort, ShortAt, add_each, covers_after, sittings_after};
 ghost use Rattle.keeper.specs.PayIns.{pay_in_answer, covers_paid, PayInDenied};

@@ -1,5 +1,5 @@
 // What is common to every book: whether an offer is sound, and how a house stands under one.
-ghost use Rattle.std.specs.Prelude.{◌≡◌, ℕ, ◌≤◌, List, length, ℤ, pos, ◌+ℤ◌, Decides};
+ghost use Rattle.std.specs.Prelude.{◌≡◌, ◌≤◌, length, ℤ, pos, ◌+ℤ◌, Decides};
 ghost use Rattle.keeper.specs.Covers.{most_houses, most_together};
 ghost use Rattle.keeper.specs.Offers.{Sound, WithinLimit, AllWithinLimit, sum_ℤ};
 

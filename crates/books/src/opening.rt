@@ -1,5 +1,5 @@
 // The rules of opening a book.
-ghost use Rattle.std.specs.Prelude.{◌≡◌, ℕ, ◌<◌, ◌≤◌, List, Decides};
+ghost use Rattle.std.specs.Prelude.{◌≡◌, Decides};
 ghost use Rattle.books.specs.Opening.{Openable, AllSmall, open_number};
 
 const MOST_HOUSES: usize = 64;

@@ -1,5 +1,5 @@
 // What is common to every book: whether a sum may be paid in.
-ghost use Rattle.std.specs.Prelude.{◌≡◌, ℕ, ◌+◌, ◌≤◌, ◌&&◌, nat_le};
+ghost use Rattle.std.specs.Prelude.{◌≡◌, ◌+◌, ◌≤◌, ◌&&◌, nat_le};
 ghost use Rattle.keeper.specs.Covers.{most_together};
 ghost use Rattle.keeper.specs.PayIns.{most_paid_in};
 

@@ -1,5 +1,5 @@
 // The work of the guarantee book, on a slice of pledges and a slice of running sums.
-ghost use Rattle.std.specs.Prelude.{◌≡◌, ℕ, ◌+◌, ◌<◌, ◌≤◌, List, length, ℤ, pos, ◌+ℤ◌, ◌≤ℤ◌, ◌<ℤ◌, Decides, MatchOption, slice_index, slice_index_or, slice_set};
+ghost use Rattle.std.specs.Prelude.{◌≡◌, ℕ, ◌+◌, ◌<◌, ◌≤◌, length, ℤ, pos, ◌+ℤ◌, ◌≤ℤ◌, ◌<ℤ◌, Decides, MatchOption, slice_index, slice_index_or, slice_set};
 ghost use Rattle.keeper.specs.Covers.{total, most_together};
 ghost use Rattle.keeper.specs.Offers.{Sound, WithinLimit, NoneShort, add_each};
 ghost use Rattle.books.specs.Naming.{Worst, Greatest};

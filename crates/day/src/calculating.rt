@@ -1,7 +1,7 @@
 // The collecting ends, and the positions are told.
-ghost use Rattle.std.specs.Prelude.{◌≡◌, ℕ, ◌<◌, ◌≤◌, List, length};
+ghost use Rattle.std.specs.Prelude.{◌≡◌};
 ghost use Rattle.day.specs.Answers.{calculate_answer, calculated_from, position_answer};
-ghost use Rattle.day.specs.View.{records_of, free_of, Fixed};
+ghost use Rattle.day.specs.View.{records_of, Fixed};
 
 use crate::answer::{CalculateAnswer, PositionAnswer};
 use crate::day::Day;

@@ -1,8 +1,8 @@
 // Stores into the records, one by one.
-ghost use Rattle.std.specs.Prelude.{◌≡◌, ℕ, ◌≤◌, ◌||◌, List, map, length};
+ghost use Rattle.std.specs.Prelude.{◌≡◌, ◌≤◌, ◌||◌, map, length};
 ghost use Rattle.netting.specs.Payments.{is_from, is_to};
 ghost use Rattle.day.specs.Changes.{settled_at_last, excluded_with, stamp};
-ghost use Rattle.day.specs.View.{records_of, free_of, Fixed};
+ghost use Rattle.day.specs.View.{records_of, Fixed};
 
 use crate::day::Day;
 use records::{Record, State};

@@ -1,5 +1,5 @@
 // A day over the caller's records.
-ghost use Rattle.std.specs.Prelude.{ℕ, ◌≤◌, length};
+ghost use Rattle.std.specs.Prelude.{◌≤◌, length};
 ghost use Rattle.keeper.specs.Covers.{most_houses};
 ghost use Rattle.netting.specs.Payments.{most_records};
 ghost use Rattle.day.specs.Fits.{Fits};

@@ -1,8 +1,8 @@
 // The house that was named short is excluded.
-ghost use Rattle.std.specs.Prelude.{◌≡◌, ℕ, ◌<◌, ◌≤◌, List, map, length};
+ghost use Rattle.std.specs.Prelude.{◌≡◌};
 ghost use Rattle.netting.specs.Payments.{is_house};
 ghost use Rattle.day.specs.Answers.{exclude_answer, records_excluded, remembered_excluded};
-ghost use Rattle.day.specs.View.{records_of, free_of, Fixed};
+ghost use Rattle.day.specs.View.{records_of, Fixed};
 
 use crate::answer::ExcludeAnswer;
 use crate::day::Day;

@@ -1,9 +1,9 @@
 // The settlement of the morning and of the afternoon.
-ghost use Rattle.std.specs.Prelude.{◌≡◌, ℕ, ◌<◌, ◌≤◌, List, length};
+ghost use Rattle.std.specs.Prelude.{◌≡◌, ◌≤◌, length};
 ghost use Rattle.keeper.specs.Offers.{OfferDenied};
 ghost use Rattle.netting.specs.Outcomes.{MorningSettled, AllOffered};
 ghost use Rattle.day.specs.Settling.{Settles, SettleDenied};
-ghost use Rattle.day.specs.View.{records_of, free_of, Fixed, scene_of};
+ghost use Rattle.day.specs.View.{records_of, Fixed, scene_of};
 ghost use Rattle.day.specs.declared.phase.Phase.TheVariants.{MorningCalculated, AfternoonCalculated};
 
 use crate::answer::SettleAnswer;

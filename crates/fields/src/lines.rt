@@ -1,5 +1,5 @@
 // The first row of a field that fails a check.
-ghost use Rattle.std.specs.Prelude.{◌≡◌, ◌<◌, length, ◌==◌};
+ghost use Rattle.std.specs.Prelude.{◌≡◌, length, ◌==◌};
 ghost use Rattle.text.specs.Rows.{rows_of};
 ghost use Rattle.fields.specs.Lines.{bad_line, bad_account, first_row};
 ghost use Rattle.fields.specs.Lines.{fails as failing};

@@ -6,7 +6,7 @@ use crate::single::{bank, reference};
 use crate::terms::Terms;
 use crate::value::{counted, value};
 use cuts::tagged::Tagged;
-use faults::{Code, Fault};
+use faults::Fault;
 use text::tag::Tag;
 
 const TERMS: Terms = Terms {

@@ -1,5 +1,5 @@
 // The control message of a file, read from a frame's content.
-ghost use Rattle.std.specs.Prelude.{◌≡◌, ◌&&◌};
+ghost use Rattle.std.specs.Prelude.{◌≡◌};
 ghost use Rattle.text.specs.Rows.{rows_of};
 ghost use Rattle.frames.specs.Blocks.{parts_in, named_in};
 ghost use Rattle.files.specs.Stated.{StatedLaw};

@@ -1,5 +1,5 @@
 // A list of offers and pay-ins carried out on any paying-in keeper.
-ghost use Rattle.std.specs.Prelude.{◌≡◌, ℕ, ◌≤◌, min, List, length, slice_index_or};
+ghost use Rattle.std.specs.Prelude.{◌≡◌, ℕ, ◌≤◌, min, length, slice_index_or};
 ghost use Rattle.keeper.specs.Runs.{Does, Carried, history};
 
 use crate::keeping::PayingIn;

@@ -4,7 +4,7 @@ ghost use Rattle.std.specs.Option.{option_map};
 ghost use Rattle.fields.specs.Shapes.{part_of};
 ghost use Rattle.headers.specs.Tables.{first_of};
 ghost use Rattle.kinds.specs.Contents.{row_in};
-ghost use Rattle.messages.specs.Payments.{unpayable, held_by, keeper_of, misplaced, last_faults, last_fault};
+ghost use Rattle.messages.specs.Payments.{held_by, keeper_of, misplaced, last_faults, last_fault};
 ghost use Rattle.messages.specs.Readings.{account_in};
 
 use codes::accounts::bank_of;

@@ -1,5 +1,5 @@
 // Amounts of money in cents: read from their characters, and written.
-ghost use Rattle.std.specs.Prelude.{◌≡◌, ◌+◌, ◌-◌, ◌*◌, ◌/◌, ◌%◌, ◌^◌, ◌<◌, ◌≤◌, true, length, drop};
+ghost use Rattle.std.specs.Prelude.{◌≡◌, ◌^◌, ◌<◌, ◌≤◌, true, length, drop};
 ghost use Rattle.std.specs.Option.{option_map};
 ghost use Rattle.text.specs.Chars.{belongs, every};
 ghost use Rattle.text.specs.declared.class.Class.TheVariants.{Digit};

@@ -1,5 +1,5 @@
 // Dates of the Gregorian calendar from 2000 to 2099.
-ghost use Rattle.std.specs.Prelude.{◌≡◌, ◌+◌, ◌-◌, ◌*◌, ◌%◌, ◌≤◌, true};
+ghost use Rattle.std.specs.Prelude.{◌≡◌, ◌*◌, ◌≤◌, true};
 ghost use Rattle.std.specs.Option.{option_map};
 ghost use Rattle.values.specs.Digits.{digits as digits_of};
 ghost use Rattle.values.specs.Calendar.{months_in_year, common_days, leap, leap_day, days_in, valid_date, dated, days_of, day_of_year};
