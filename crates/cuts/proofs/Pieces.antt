@@ -8,10 +8,11 @@ use Rattle.text.specs.Chars.{belongs, every}
 use Rattle.text.specs.declared.class.Class.TheVariants.{Permitted}
 use Rattle.text.specs.declared.tag.Tag.{Tag}
 use Rattle.text.specs.Rows.{crlf, rows_of, put}
-use Rattle.text.specs.Tags.{is_tag, tag_in, tag_of, tag_size}
+use Rattle.text.specs.Tags.{is_tag, tag_in, tag_of, tag_size, tag_text}
 use Rattle.text.specs.Texts.{begun, row_formed, rows_formed, opens, good, formed}
 use Rattle.text.proofs.Cuts.{rows_cut, tag_first}
 use Rattle.text.proofs.Joins.{row_put, rows_put}
+use Rattle.text.proofs.TagTexts.{tag_row}
 use Rattle.cuts.proofs.Puts.{tag_fits, first_tag}
 use Rattle.cuts.specs.Cuts.{untagged, tagged, fields_of, leads, whole}
 
@@ -79,21 +80,30 @@ drop_ended n r u h =
     let l : n ≤ length (r ++ 13 ∷ 10 ∷ []) = simp length-append (omega arith) in
     drop-append-le n (r ++ 13 ∷ 10 ∷ []) u l ∙ ap (λ x. x ++ u) (drop-append-le n r (13 ∷ 10 ∷ []) h)
 
-pub field_rows : (t row rest after cut bytes : List ℕ) → good t ≡ true → rows_of t ≡ row ∷ rows_of rest → is_tag row ≡ true
+-- the text is the rows before the cut and what is after it, and the field's bytes are those rows without the tag
+field_bytes : (t row rest after cut bytes : List ℕ) → good t ≡ true → rows_of t ≡ row ∷ rows_of rest → is_tag row ≡ true
     → rows_of after ≡ tagged (rows_of rest) → good after ≡ true → cut ≡ take (length t - length after) t → bytes ≡ drop (tag_size (tag_in row)) cut
-    → rows_of bytes ≡ drop (tag_size (tag_in row)) row ∷ untagged (rows_of rest)
-field_rows t row rest after cut bytes g e tag ea ga ec eb =
+    → (t ≡ ((row ++ 13 ∷ 10 ∷ []) ++ put (untagged (rows_of rest))) ++ after)
+    × (bytes ≡ (drop (tag_size (tag_in row)) row ++ 13 ∷ 10 ∷ []) ++ put (untagged (rows_of rest)))
+field_bytes t row rest after cut bytes g e tag ea ga ec eb =
     let rs = rows_of rest in
     let size = tag_size (tag_in row) in
     let head = row ++ 13 ∷ 10 ∷ [] in
     let own = head ++ put (untagged rs) in
-    let formed_all : rows_formed (row ∷ rs) ≡ true = sym (ap rows_formed e) ∙ (and_parts (bytes_eq (put (rows_of t)) t) (rows_formed (rows_of t)) g).1 in
-    let f = and_parts (row_formed row) (rows_formed rs) formed_all in
-    let permitted : every (belongs Permitted) row ≡ true = (and_parts (every (belongs Permitted) row) (begun row) f.0).0 in
     let x : t ≡ own ++ put (tagged rs) = sym (put_rows t g) ∙ ap put e ∙ ap (λ u. head ++ u) (put_split rs) ∙ sym (append_assoc head (put (untagged rs)) (put (tagged rs))) in
     let y : after ≡ put (tagged rs) = sym (put_rows after ga) ∙ ap put ea in
     let c : cut ≡ own = ec ∙ (λ i. take (length (x i) - length (y i)) (x i)) ∙ take_front own (put (tagged rs)) in
-    let b : bytes ≡ (drop size row ++ 13 ∷ 10 ∷ []) ++ put (untagged rs) = eb ∙ ap (drop size) c ∙ drop_ended size row (put (untagged rs)) (tag_fits row tag) in
+    (x ∙ ap (λ u. own ++ u) (sym y), eb ∙ ap (drop size) c ∙ drop_ended size row (put (untagged rs)) (tag_fits row tag))
+
+field_rows : (t row rest bytes : List ℕ) → good t ≡ true → rows_of t ≡ row ∷ rows_of rest
+    → bytes ≡ (drop (tag_size (tag_in row)) row ++ 13 ∷ 10 ∷ []) ++ put (untagged (rows_of rest))
+    → rows_of bytes ≡ drop (tag_size (tag_in row)) row ∷ untagged (rows_of rest)
+field_rows t row rest bytes g e b =
+    let rs = rows_of rest in
+    let size = tag_size (tag_in row) in
+    let formed_all : rows_formed (row ∷ rs) ≡ true = sym (ap rows_formed e) ∙ (and_parts (bytes_eq (put (rows_of t)) t) (rows_formed (rows_of t)) g).1 in
+    let f = and_parts (row_formed row) (rows_formed rs) formed_all in
+    let permitted : every (belongs Permitted) row ≡ true = (and_parts (every (belongs Permitted) row) (begun row) f.0).0 in
     ap rows_of b ∙ row_put (drop size row) (put (untagged rs)) (every_drop (belongs Permitted) size row permitted)
     ∙ ap (λ l. drop size row ∷ l) (rows_put (untagged rs) (formed_untagged rs f.1))
 
@@ -106,9 +116,28 @@ field_next t row rest after cut bytes tag w e et ea ga ec eb =
     let yes : is_tag row ≡ true = sym (ap leads e) ∙ p.1 in
     let same : tag_in row ≡ tag = some_is (tag_in row) tag (sym (cond-true (is_tag row) (Some (tag_in row)) None yes) ∙ et) in
     let size : tag_size tag ≡ tag_size (tag_in row) = ap tag_size (sym same) in
-    let rows = field_rows t row rest after cut bytes p.0 e yes ea ga ec (eb ∙ ap (λ n. drop n cut) size) in
+    let rows = field_rows t row rest bytes p.0 e (field_bytes t row rest after cut bytes p.0 e yes ea ga ec (eb ∙ ap (λ n. drop n cut) size)).1 in
     ap fields_of e ∙ cond-true (is_tag row) _ _ yes
     ∙ (λ i. record { tag = same i; rows = sym rows i } ∷ (sym (fields_tagged (rows_of rest)) ∙ ap fields_of (sym ea)) i)
+
+regrouped : (a b c d e : List ℕ) → (((a ++ b) ++ c) ++ d) ++ e ≡ a ++ (((b ++ c) ++ d) ++ e)
+regrouped a b c d e = simp append_assoc
+
+-- the text is the tag as it is written, the field's bytes, and what is after them
+pub field_cut : (t row rest after cut bytes : List ℕ) (tag : Tag) → whole t ≡ true → rows_of t ≡ row ∷ rows_of rest → tag_of row ≡ Some tag
+    → rows_of after ≡ tagged (rows_of rest) → good after ≡ true → cut ≡ take (length t - length after) t → bytes ≡ drop (tag_size tag) cut
+    → t ≡ tag_text tag ++ (bytes ++ after)
+field_cut t row rest after cut bytes tag w e et ea ga ec eb =
+    let p = and_parts (good t) (leads (rows_of t)) w in
+    let yes : is_tag row ≡ true = sym (ap leads e) ∙ p.1 in
+    let same : tag_in row ≡ tag = some_is (tag_in row) tag (sym (cond-true (is_tag row) (Some (tag_in row)) None yes) ∙ et) in
+    let size : tag_size tag ≡ tag_size (tag_in row) = ap tag_size (sym same) in
+    let q = field_bytes t row rest after cut bytes p.0 e yes ea ga ec (eb ∙ ap (λ n. drop n cut) size) in
+    let left = drop (tag_size (tag_in row)) row in
+    let rows = put (untagged (rows_of rest)) in
+    let written : row ≡ tag_text tag ++ left = sym (tag_row row yes) ∙ ap (λ g. tag_text g ++ left) same in
+    q.0 ∙ ap (λ r. ((r ++ 13 ∷ 10 ∷ []) ++ rows) ++ after) written
+    ∙ regrouped (tag_text tag) left (13 ∷ 10 ∷ []) rows after ∙ ap (λ b. tag_text tag ++ (b ++ after)) (sym q.1)
 
 -- a text whose first row is no tag is not whole
 pub no_tag : (t row rest : List ℕ) → whole t ≡ true → rows_of t ≡ row ∷ rows_of rest → tag_of row ≡ None → ⊥

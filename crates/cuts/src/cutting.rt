@@ -1,6 +1,7 @@
 // Cutting a text into its fields.
-ghost use Rattle.std.specs.Prelude.{◌≡◌, ◌<◌, ◌≤◌, true, [], ◌∷◌, length, if◌then◌else◌, Some, None};
+ghost use Rattle.std.specs.Prelude.{◌≡◌, ◌<◌, ◌≤◌, true, [], ◌∷◌, ◌++◌, length, if◌then◌else◌, Some, None};
 ghost use Rattle.text.specs.Rows.{rows_of};
+ghost use Rattle.text.specs.Tags.{tag_text};
 ghost use Rattle.text.specs.Texts.{good, formed};
 ghost use Rattle.cuts.specs.Cuts.{fields_of, tagged, FieldLaw};
 
@@ -37,9 +38,10 @@ impl<'a> Fields<'a> {
         Fields { rest: text }
     }
 
-    // The next field.
+    // The next field: what is left is its tag as it is written, its bytes, and what is left then.
     pub fn next(&mut self) -> Option<Tagged<'a>>
         ensures fields { fields_of (rows_of self.old.rest.now) ≡ elim result [ None ↦ [] | Some f ↦ record { tag = f.tag; rows = rows_of f.bytes.now } ∷ fields_of (rows_of self.new.rest.now) ] }
+        ensures cut { self.old.rest.now ≡ elim result [ None ↦ self.new.rest.now | Some f ↦ tag_text f.tag ++ (f.bytes.now ++ self.new.rest.now) ] }
         ensures shorter { elim result [ None ↦ self.new.rest.now ≡ self.old.rest.now | Some x ↦ length self.new.rest.now < length self.old.rest.now ] }
     {
         let rest = self.rest;

@@ -2,3 +2,4 @@ pub mod Cuts
 pub mod Joins
 pub mod Slashes
 pub mod Tests
+pub mod TagTexts

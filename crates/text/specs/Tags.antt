@@ -1,5 +1,5 @@
 -- Tags: what the first row of a field begins with.
-use Rattle.std.specs.Prelude.{ℕ, ◌+◌, ◌-◌, ◌*◌, ◌/◌, ◌%◌, Bool, cond, ◌&&◌, ◌||◌, List, [], ◌∷◌, Some, None, Option, ◌==◌, slice_index}
+use Rattle.std.specs.Prelude.{◌≡◌, ℕ, ◌+◌, ◌-◌, ◌*◌, ◌/◌, ◌%◌, Bool, cond, ◌&&◌, ◌||◌, List, [], ◌∷◌, ◌++◌, drop, Some, None, Option, ◌==◌, slice_index}
 use Rattle.text.specs.Chars.{digit, capital}
 use Rattle.text.specs.declared.tag.Tag.{Tag}
 
@@ -31,3 +31,7 @@ ending (Some l) = l ∷ 58 ∷ []
 -- a tag as it is written
 abbrev pub tag_text : Tag → List ℕ
 tag_text t = 58 ∷ (48 + t.number / 10) ∷ (48 + t.number % 10) ∷ ending t.letter
+
+-- a row that a tag begins is that tag as it is written, and what follows it
+abbrev pub TagLaw : Type 0
+TagLaw = (r : List ℕ) (t : Tag) → tag_of r ≡ Some t → r ≡ tag_text t ++ drop (tag_size t) r

@@ -1,5 +1,5 @@
 // The rows of a text, one by one.
-ghost use Rattle.std.specs.Prelude.{◌≡◌, ◌<◌, true, [], ◌∷◌, length, Some, None};
+ghost use Rattle.std.specs.Prelude.{◌≡◌, ◌<◌, true, [], ◌∷◌, length, drop, Some, None};
 ghost use Rattle.text.specs.Rows.{is_cr_lf, crlf, rows_of};
 ghost use Rattle.text.specs.Texts.{good};
 
@@ -45,6 +45,7 @@ impl<'a> Rows<'a> {
     // The next row, without its CrLf. Where all rows are formed, those still to come are.
     pub fn next(&mut self) -> Option<&'a [u8]>
         ensures rows { rows_of self.old.rest.now ≡ elim result [ None ↦ [] | Some x ↦ x.now ∷ rows_of self.new.rest.now ] }
+        ensures rest { self.new.rest.now ≡ drop 2 (drop (crlf self.old.rest.now) self.old.rest.now) }
         ensures formed { good self.old.rest.now ≡ true → good self.new.rest.now ≡ true }
         ensures shorter { elim result [ None ↦ self.new.rest.now ≡ self.old.rest.now | Some x ↦ length self.new.rest.now < length self.old.rest.now ] }
     {

@@ -1,6 +1,6 @@
 // Reading the tag that a row begins with.
 ghost use Rattle.std.specs.Prelude.{◌≡◌};
-ghost use Rattle.text.specs.Tags.{is_tag, tag_of, tag_size};
+ghost use Rattle.text.specs.Tags.{is_tag, tag_of, tag_size, TagLaw};
 
 use crate::class::Class;
 use crate::slices::byte;
@@ -16,9 +16,11 @@ pub fn is_tag(row: &[u8]) -> bool
     b == b':' || Class::Capital.has(b) && byte(row, 4) == b':'
 }
 
-// The tag at the start of the row, or none.
+// The tag at the start of the row, or none. A tag that is read is the one that is written there.
+#[tactic(auto, using(crate::proofs::TagTexts::tag_law))]
 pub fn tag_of(row: &[u8]) -> Option<Tag>
-    ensures { result ≡ tag_of row.now }
+    ensures tag { result ≡ tag_of row.now }
+    ensures law { TagLaw }
 {
     if !is_tag(row) {
         return None;
