@@ -1,1 +1,2 @@
 pub mod Some
+pub mod Placed

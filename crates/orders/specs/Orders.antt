@@ -1,5 +1,5 @@
 -- Fields in an order of slots, some of which may stay empty.
-use Rattle.std.specs.Prelude.{ℕ, Bool, true, false, cond, ◌&&◌, ◌||◌, List, [], ◌∷◌, length, is_some, Some, None, Option, ◌==◌}
+use Rattle.std.specs.Prelude.{◌≡◌, ℕ, Bool, true, false, cond, ◌&&◌, ◌||◌, List, [], ◌∷◌, length, is_some, Some, None, Option, ◌==◌}
 use Rattle.text.specs.Rows.{rows_of}
 use Rattle.text.specs.Texts.{formed}
 use Rattle.text.specs.declared.tag.Tag.{Tag}
@@ -57,3 +57,21 @@ in_order order fs = complete order (arranged order fs) && length (left_over orde
 -- the fields slot by slot, if they stand in the order
 abbrev pub placed : List Slot → List Parts → Option (List (Option Parts))
 placed order fs = cond (in_order order fs) (Some (arranged order fs)) None
+
+-- the fields that stand in slots, one after another
+abbrev pub standing_in : List (Option Parts) → List Parts
+standing_in [] = []
+standing_in (None ∷ ps) = standing_in ps
+standing_in (Some p ∷ ps) = p ∷ standing_in ps
+
+-- each field that stands in a slot fits it
+abbrev pub each_fits : List Slot → List (Option Parts) → Bool
+each_fits [] ps = true
+each_fits (s ∷ ss) [] = true
+each_fits (s ∷ ss) (None ∷ ps) = each_fits ss ps
+each_fits (s ∷ ss) (Some p ∷ ps) = fits s p.tag && each_fits ss ps
+
+-- fields that are placed in an order are all there, as they came, each in a slot that it fits, and no slot is empty that may not be
+abbrev pub OrderLaw : Type 0
+OrderLaw = (order : List Slot) (fs : List Parts) (ps : List (Option Parts)) → placed order fs ≡ Some ps
+    → (standing_in ps ≡ fs) × (each_fits order ps ≡ true) × (complete order ps ≡ true)

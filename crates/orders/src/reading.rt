@@ -2,7 +2,7 @@
 ghost use Rattle.std.specs.Prelude.{◌≡◌, not, length, ◌==◌};
 ghost use Rattle.std.specs.Option.{option_map};
 ghost use Rattle.text.specs.Texts.{formed};
-ghost use Rattle.orders.specs.Orders.{taken, left, fields_in};
+ghost use Rattle.orders.specs.Orders.{taken, left, fields_in, OrderLaw};
 ghost use Rattle.orders.specs.ToCome.{parts_in, to_come};
 
 use crate::slot::Slot;
@@ -35,10 +35,12 @@ fn advance<'a>(walk: &mut Walk<'a>, slot: Slot) -> Option<Tagged<'a>>
 }
 
 impl<'a> Walk<'a> {
-    // All fields of a text that is formed, of which there are some; none of one that is not.
+    // All fields of a text that is formed, of which there are some; none of one that is not. Fields that are placed in an order are
+    // all there, as they came.
     pub fn of(text: &'a [u8]) -> Walk<'a>
         ensures all { to_come result ≡ fields_in text.now }
         ensures some { (length (to_come result) == 0) ≡ not (formed text.now) }
+        ensures law { OrderLaw }
     {
         begin(text)
     }
