@@ -14,7 +14,7 @@ use Rattle.keeper.specs.declared.step.StepAnswer.{StepAnswer}
 use Rattle.keeper.specs.declared.step.StepAnswer.TheVariants as answer
 use Rattle.keeper.proofs.Added.{add_each_length, add_each_at}
 
--- a pay_in that is taken is for a house
+-- a pay-in that is taken is for a house
 paid_house : (covers : List ℕ) (place amount : ℕ) → paid.Taken ≡ pay_in_answer covers place amount → place < length covers
 paid_house covers place amount e =
     elim (leb_tells (suc place) (length covers)) [

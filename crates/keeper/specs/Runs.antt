@@ -1,8 +1,8 @@
 -- Any run of offers and pay-ins on one keeper, and what it leaves.
 use Rattle.std.specs.Prelude.{◌≡◌, ℕ, zero, suc, ◌+◌, ◌<◌, Bool, cond, List, [], ◌∷◌, length, ℤ, pos, ◌+ℤ◌, ◌==◌, slice_index, slice_index_or}
 use Rattle.keeper.specs.Numbers.{offer_number, pay_in_number}
-use Rattle.keeper.specs.Offers.{OfferAnswered, covers_after, sittings_after}
-use Rattle.keeper.specs.PayIns.{pay_in_answer, covers_paid}
+use Rattle.keeper.specs.Offers.{OfferAnswered, OfferDenied, covers_after, sittings_after}
+use Rattle.keeper.specs.PayIns.{pay_in_answer, covers_paid, PayInDenied}
 use Rattle.keeper.specs.declared.answer.OfferAnswer.TheVariants.{Unsound}
 use Rattle.keeper.specs.declared.step.Step.{Step}
 use Rattle.keeper.specs.declared.step.Step.TheVariants.{Offer, PayIn}
@@ -33,6 +33,11 @@ Does (Offer ps) (answer.PayIn r) a b = ⊥
 Does (PayIn place amount) (answer.Offer r) a b = ⊥
 Does (PayIn place amount) (answer.PayIn r) a b =
     (r ≡ pay_in_answer a.covers place amount) × (b.covers ≡ covers_paid a.covers place amount r) × (b.sittings ≡ a.sittings)
+
+-- an answer that is not Taken
+abbrev pub StepDenied : StepAnswer → Type 0
+StepDenied (answer.Offer r) = OfferDenied r
+StepDenied (answer.PayIn r) = PayInDenied r
 
 -- the events lead from one standing to the other
 abbrev pub Ran : Standing → List Event → Standing → Type 0

@@ -1,13 +1,14 @@
 // A list of offers and pay-ins carried out on any paying-in keeper.
 ghost use Rattle.std.specs.Prelude.{◌≡◌, ℕ, ◌≤◌, min, length, slice_index_or};
-ghost use Rattle.keeper.specs.Runs.{Does, Carried, history};
+ghost use Rattle.keeper.specs.Runs.{Does, StepDenied, Carried, history};
 
 use crate::keeping::PayingIn;
 use crate::step::{Step, StepAnswer};
 
 // One step.
 pub fn act<K: PayingIn>(keeper: &mut K, step: Step) -> StepAnswer
-    ensures { Does step.entry result (record { covers = K.Keeper.covers keeper.old; sittings = K.Keeper.sittings keeper.old }) (record { covers = K.Keeper.covers keeper.new; sittings = K.Keeper.sittings keeper.new }) }
+    ensures does { Does step.entry result (record { covers = K.Keeper.covers keeper.old; sittings = K.Keeper.sittings keeper.old }) (record { covers = K.Keeper.covers keeper.new; sittings = K.Keeper.sittings keeper.new }) }
+    ensures denial_alters_nothing { StepDenied result → keeper.new ≡ keeper.old }
 {
     match step {
         Step::Offer { positions } => StepAnswer::Offer(keeper.offer(positions)),

@@ -8,7 +8,7 @@ loop-i-preserved g c =
     let e = c.loop-i.auto.answers in
     let l = c.loop-i-test.true in (
       ran_more _ (record { covers = g.K.Keeper.covers c.loop-i.keeper; sittings = g.K.Keeper.sittings c.loop-i.keeper }) _
-          c.args.steps.now c.loop-i.answers c.loop-i.i c.act.result _ (omega arith) (omega arith) c.loop-i.invariant.0 c.act.ensures,
+          c.args.steps.now c.loop-i.answers c.loop-i.i c.act.result _ (omega arith) (omega arith) c.loop-i.invariant.0 c.act.ensures.does,
       λ k d h. let ne : k ≢ c.loop-i.i = λ q. absurd (omega arith) in
           get_or-set_other c.loop-i.answers c.loop-i.i k c.act.result d ne ∙ c.loop-i.invariant.1 k d (omega arith),
     )
