@@ -1,8 +1,8 @@
--- A text is cut into its words one by one, and the words are all that splits it. Assumes nothing.
+-- A text is cut into its words one by one, and the words are all that splits it.
 use Rattle.std.proofs.Common.{◌≡◌, ℕ, ◌+◌, ◌<◌, ◌≤◌, Bool, true, false, cond, not, eqb, List, [], ◌∷◌, ◌++◌, length, take, drop, sym, refl, ap, ◌∙◌, one-add, arith}
 use Rattle.std.specs.List.{flat_map}
 use Rattle.std.proofs.lemmas.List.{length-drop}
-use Rattle.std.proofs.lemmas.Bool.{and_parts, and_from, eq-eqb, eqb-true, cond-true, cond-false}
+use Rattle.std.proofs.lemmas.Bool.{and_parts, and_from, eq-eqb, eqb-true, not-true, cond-true, cond-false}
 use Rattle.text.specs.Chars.{place}
 use Rattle.script.specs.Words.{on_first, words_of, words_after, together, lacks, AllLack, WordsLaw}
 
@@ -59,15 +59,11 @@ words_whole : (sep : ℕ) (t : List ℕ) → together sep (words_of sep t) ≡ t
 words_whole sep [] = refl
 words_whole sep (b ∷ t) = whole_by sep b t (words_whole sep t) (eqb b sep) refl
 
-pub not_true : (v : Bool) → not v ≡ true → v ≡ false
-not_true true e = sym e
-not_true false e = refl
-
 put_word : (sep : ℕ) (w r : List ℕ) (ws : List (List ℕ)) → lacks sep w ≡ true → words_of sep r ≡ [] ∷ ws → words_of sep (w ++ r) ≡ w ∷ ws
 put_word sep [] r ws h e = e
 put_word sep (b ∷ w) r ws h e =
     let p = and_parts (not (eqb b sep)) (lacks sep w) h in
-    cond-false (eqb b sep) _ _ (not_true (eqb b sep) p.0) ∙ ap (on_first b) (put_word sep w r ws p.1 e)
+    cond-false (eqb b sep) _ _ (not-true (eqb b sep) p.0) ∙ ap (on_first b) (put_word sep w r ws p.1 e)
 
 put_words : (sep : ℕ) (ws : List (List ℕ)) → AllLack sep ws → words_of sep (flat_map (λ v. sep ∷ v) ws) ≡ [] ∷ ws
 put_words sep [] a = refl

@@ -1,4 +1,4 @@
--- What is read so far, and what follows it. Assumes nothing.
+-- What is read so far, and what follows it.
 use Rattle.std.proofs.Common.{◌≡◌, List, [], ◌∷◌, ◌++◌, Ok, Err, Result, refl, ap, append_assoc}
 use Rattle.script.specs.declared.command.LineError.{LineError}
 use Rattle.script.specs.Outcomes.{in_front}

@@ -1,4 +1,4 @@
--- What is written in the usual ways is read back. Assumes nothing.
+-- What is written in the usual ways is read back.
 use Rattle.std.proofs.Common.{◌≡◌, ℕ, zero, suc, ◌+◌, ◌*◌, ◌/◌, ◌%◌, ◌^◌, ◌<◌, ◌≤◌, Bool, true, false, cond, not, eqb, ltb, leb, List, [], ◌∷◌, length, ℤ, pos, negsuc, neg_ℤ, Some, Ok, Err, decimal, Result, sym, refl, ap, ◌∙◌, subst, inl, inr, mod-lt, arith, lit<, rules}
 use lib.Signed.{mag}
 use native.Mathlib.Nat.{div-add-mod}
@@ -6,7 +6,7 @@ use Rattle.std.specs.List.{AllByRecursion}
 use Rattle.std.specs.Fmt.{signed_decimal}
 use Rattle.std.proofs.lemmas.Fmt.{digits_decimal, digits_value-decimal, decimal_nonempty}
 use Rattle.std.proofs.lemmas.Str.Parse.{IsNumeralModel, numerals_by_fold}
-use Rattle.std.proofs.lemmas.Bool.{and_parts, and_from, ne_eqb, cond-true, cond-false, lt-ltb, le-leb, leb-true, ltb-true, cases_Bool}
+use Rattle.std.proofs.lemmas.Bool.{and_parts, and_from, ne_eqb, not-true, cond-true, cond-false, lt-ltb, le-leb, leb-true, ltb-true, cases_Bool}
 use Rattle.std.proofs.lemmas.Bool.Decides.{nat_tests}
 use Rattle.text.specs.Chars.{digit, every}
 use Rattle.script.specs.declared.command.LineError.{LineError}
@@ -16,7 +16,7 @@ use Rattle.script.specs.Numbers.{number_after, is_number, number_of, plus, minus
 use Rattle.script.specs.Outcomes.{and_then, in_front}
 use Rattle.script.specs.Spelling.{backslash, hex_digit, paired, escaped, spelled}
 use Rattle.script.specs.Words.{lacks}
-use Rattle.script.proofs.Cuts.{not_true, words_law}
+use Rattle.script.proofs.Cuts.{words_law}
 use Rattle.script.proofs.Digits.{digits_first}
 use Rattle.script.proofs.Spells.{plain}
 
@@ -24,7 +24,7 @@ plain_word : (w : List ℕ) → lacks backslash w ≡ true → spelled w ≡ Ok 
 plain_word [] h = refl
 plain_word (b ∷ w) h =
     let p = and_parts (not (eqb b backslash)) (lacks backslash w) h in
-    plain b w (not_true _ p.0) ∙ ap (in_front b) (plain_word w p.1)
+    plain b w (not-true _ p.0) ∙ ap (in_front b) (plain_word w p.1)
 
 hex_back : (d : ℕ) → d < 16 → hex_digit (hex_char d) ≡ Some d
 hex_back d h = grind (arith, nat_tests)
@@ -96,13 +96,13 @@ minus_bounded n z e =
       | inr f ↦ absurd (none z (sym (cond-false (leb n (2 ^ 63)) (Ok (neg_ℤ (pos n))) (Err BadNumber) f) ∙ e))
     ]
 
-then-bounded : (r : Result ℕ LineError) (f : ℕ → Result ℤ LineError) (z : ℤ) → ((n : ℕ) → f n ≡ Ok z → mag z < 2 ^ 63) → and_then r f ≡ Ok z → mag z < 2 ^ 63
-then-bounded (Ok n) f z h e = h n e
-then-bounded (Err d) f z h e = let q : ◌≡◌ {A = ℕ} 0 1 = cc in absurd (omega arith)
+then_bounded : (r : Result ℕ LineError) (f : ℕ → Result ℤ LineError) (z : ℤ) → ((n : ℕ) → f n ≡ Ok z → mag z < 2 ^ 63) → and_then r f ≡ Ok z → mag z < 2 ^ 63
+then_bounded (Ok n) f z h e = h n e
+then_bounded (Err d) f z h e = let q : ◌≡◌ {A = ℕ} 0 1 = cc in absurd (omega arith)
 
 signed_by : (b : ℕ) (t : List ℕ) (z : ℤ) (v : Bool) → cond v (and_then (number_of t) minus) (and_then (number_of (b ∷ t)) plus) ≡ Ok z → mag z < 2 ^ 63
-signed_by b t z true e = then-bounded (number_of t) minus z (λ n. minus_bounded n z) e
-signed_by b t z false e = then-bounded (number_of (b ∷ t)) plus z (λ n. plus_bounded n z) e
+signed_by b t z true e = then_bounded (number_of t) minus z (λ n. minus_bounded n z) e
+signed_by b t z false e = then_bounded (number_of (b ∷ t)) plus z (λ n. plus_bounded n z) e
 
 signed_bounded : (w : List ℕ) (z : ℤ) → signed_of w ≡ Ok z → mag z < 2 ^ 63
 signed_bounded [] z e = absurd (none z e)

@@ -1,4 +1,4 @@
--- What words say, word by word. Assumes nothing.
+-- What words say, word by word.
 use Rattle.std.proofs.Common.{◌≡◌, ℕ, List, [], ◌∷◌, ◌++◌, Ok, Result, sym, ap, ◌∙◌}
 use Rattle.script.specs.declared.command.LineError.{LineError}
 use Rattle.script.specs.Commands.{said_by, said_by_all}

@@ -1,4 +1,4 @@
--- What a word spells, byte by byte. Assumes nothing.
+-- What a word spells, byte by byte.
 use Rattle.std.proofs.Common.{◌≡◌, ℕ, false, eqb, List, [], ◌∷◌, Some, sym, ap, ◌∙◌}
 use Rattle.std.proofs.lemmas.Bool.{eq-eqb, ne_eqb, cond-true, cond-false}
 use Rattle.script.specs.Outcomes.{in_front}
