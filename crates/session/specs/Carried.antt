@@ -9,7 +9,7 @@ use Rattle.keeper.specs.declared.answer.PayInAnswer.{PayInAnswer}
 use Rattle.script.specs.declared.command.Kind.{Kind}
 use Rattle.script.specs.declared.command.LineError.{LineError}
 use Rattle.script.specs.declared.command.LineError.TheVariants.{NoBook, NoMemory}
-use Rattle.session.specs.Books.{kind_of, covers_in, sittings_in}
+use Rattle.session.specs.Books.{kind_of, covers_in, sittings_in, pledges_in, Names}
 use Rattle.session.specs.declared.any_book.AnyBook.{AnyBook}
 use Rattle.session.specs.declared.answer.BookAnswer.{BookAnswer}
 use Rattle.session.specs.declared.answer.BookAnswer.TheVariants.{Opened, Denied}
@@ -22,11 +22,11 @@ pub record Holds (book : Option AnyBook) (kind : Kind) (covers : List ℕ) (sitt
   pub covers_are : covers_in held ≡ covers
   pub sittings_are : sittings_in held ≡ sittings
 
--- a book is opened by the rules of opening; one that is denied, or finds no memory, leaves the one before it
+-- a book is opened by the rules of opening; one that is denied, or that keeps them all and finds no memory, leaves the one before it
 abbrev pub Opens : Kind → ℕ → List ℕ → Option AnyBook → Result BookAnswer LineError → Option AnyBook → Type 0
 Opens kind sittings sums before (Ok Opened) after = Openable sums sittings × Holds after kind sums sittings
 Opens kind sittings sums before (Ok Denied) after = (Openable sums sittings → ⊥) × (after ≡ before)
-Opens kind sittings sums before (Err e) after = (e ≡ NoMemory) × (after ≡ before)
+Opens kind sittings sums before (Err e) after = Openable sums sittings × (e ≡ NoMemory) × (after ≡ before)
 
 -- what needs a book is done with the book that is there; without one it cannot be done
 abbrev pub WithBook : {X : Type 0} → (X → AnyBook → AnyBook → Type 0) → Option AnyBook → Result X LineError → Option AnyBook → Type 0
@@ -44,6 +44,8 @@ pub record Offered (ps : List ℤ) (answer : OfferAnswer) (b c : AnyBook) : Type
   pub sittings_after : sittings_in c ≡ sittings_after (sittings_in b) answer
   pub denied_alters_nothing : OfferDenied answer → c ≡ b
   pub same_kind : kind_of c ≡ kind_of b
+  pub named : Names b ps answer
+  pub pledges_stay : pledges_in c ≡ pledges_in b
 
 -- a sum is paid in with a book, which it leaves as another
 pub record PaidIn (place cents : ℕ) (answer : PayInAnswer) (b c : AnyBook) : Type 0 where
@@ -52,3 +54,4 @@ pub record PaidIn (place cents : ℕ) (answer : PayInAnswer) (b c : AnyBook) : T
   pub sittings_after : sittings_in c ≡ sittings_in b
   pub denied_alters_nothing : PayInDenied answer → c ≡ b
   pub same_kind : kind_of c ≡ kind_of b
+  pub pledges_stay : pledges_in c ≡ pledges_in b

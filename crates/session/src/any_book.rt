@@ -2,7 +2,7 @@
 ghost use Rattle.std.specs.Prelude.{◌≡◌};
 ghost use Rattle.keeper.specs.Offers.{OfferAnswered, OfferDenied, covers_after, sittings_after};
 ghost use Rattle.keeper.specs.PayIns.{pay_in_answer, covers_paid, PayInDenied};
-ghost use Rattle.session.specs.Books.{kind_of, covers_in, sittings_in};
+ghost use Rattle.session.specs.Books.{kind_of, covers_in, sittings_in, pledges_in, Names};
 ghost use Rattle.std.proofs.Common.{rules};
 
 use books::{AccountBook, GuaranteeBook};
@@ -52,6 +52,8 @@ impl Keeper for AnyBook {
         ensures sittings_after { sittings_in self.new ≡ sittings_after (sittings_in self.old) result }
         ensures denial_alters_nothing { OfferDenied result → self.new ≡ self.old }
         ensures kind_stays { kind_of self.new ≡ kind_of self.old }
+        ensures named { Names self.old positions.now result }
+        ensures pledges_stay { pledges_in self.new ≡ pledges_in self.old }
     {
         match self {
             AnyBook::Account(book) => book.offer(positions),
@@ -67,6 +69,7 @@ impl PayingIn for AnyBook {
         ensures sittings_after { sittings_in self.new ≡ sittings_in self.old }
         ensures denial_alters_nothing { PayInDenied result → self.new ≡ self.old }
         ensures kind_stays { kind_of self.new ≡ kind_of self.old }
+        ensures pledges_stay { pledges_in self.new ≡ pledges_in self.old }
     {
         match self {
             AnyBook::Account(book) => book.pay_in(place, amount),
