@@ -4,7 +4,6 @@ ghost use Rattle.keeper.specs.Covers.{total, most_together, most_houses};
 ghost use Rattle.keeper.specs.Offers.{OfferAnswered, OfferDenied, covers_after, sittings_after};
 ghost use Rattle.books.specs.Naming.{NamesLowest};
 ghost use Rattle.books.specs.Opening.{Openable, OpenDenied};
-ghost use Rattle.std.proofs.Common.{rules, arith};
 
 use crate::balances::{add_each, first_short, total_of};
 use crate::offers::is_sound;
@@ -42,11 +41,11 @@ impl Keeper for AccountBook {
 
     ghost sittings = { λ b. b.sittings };
 
-    ghost some = { first_of (Prim.search rules, Prim.grind (arith, Self.row.coded.inj)) };
+    ghost some = { λ b. b.some };
 
-    ghost few = { first_of (Prim.search rules, Prim.grind (arith, Self.row.coded.inj)) };
+    ghost few = { λ b. b.few };
 
-    ghost bounded = { first_of (Prim.search rules, Prim.grind (arith, Self.row.coded.inj)) };
+    ghost bounded = { λ b. b.bounded };
 
     fn houses(&self) -> usize {
         self.balances.len()

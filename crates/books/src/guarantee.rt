@@ -6,7 +6,7 @@ ghost use Rattle.keeper.specs.Offers.{Sound, OfferAnswered, OfferDenied, NoneSho
 ghost use Rattle.keeper.specs.PayIns.{pay_in_answer, covers_paid, PayInDenied};
 ghost use Rattle.books.specs.Naming.{Greatest, NamesGreatest};
 ghost use Rattle.books.specs.Opening.{Openable, OpenDenied};
-ghost use Rattle.std.proofs.Common.{rules, arith};
+ghost use Rattle.std.proofs.Common.{rules};
 
 use crate::offers::is_sound;
 use crate::opening::{OpenDenial, may_open};
@@ -73,11 +73,11 @@ impl Keeper for GuaranteeBook {
 
     ghost sittings = { λ b. b.sittings };
 
-    ghost some = { first_of (Prim.search rules, Prim.grind (arith, Self.row.coded.inj)) };
+    ghost some = { Prim.search rules };
 
-    ghost few = { first_of (Prim.search rules, Prim.grind (arith, Self.row.coded.inj)) };
+    ghost few = { Prim.search rules };
 
-    ghost bounded = { first_of (Prim.search rules, Prim.grind (arith, Self.row.coded.inj)) };
+    ghost bounded = { λ b. b.bounded };
 
     fn houses(&self) -> usize {
         self.pledges.len()
