@@ -1,5 +1,6 @@
 -- The laws of the greatest selection; a selection that holds the same payments is as good.
-use Rattle.std.proofs.Common.{◌≡◌, ℕ, Bool, true, false, cond, ◌&&◌, List, length, sym, refl, ap, ◌∙◌, arith}
+use Rattle.std.proofs.Common.{◌≡◌, ℕ, Bool, cond, ◌&&◌, List, length, sym, ap, ◌∙◌, arith}
+use Rattle.std.specs.Cmp.{both_ways}
 use Rattle.records.specs.Records.{record_at}
 use Rattle.records.specs.declared.recorded.Record.{Record}
 use Rattle.netting.specs.Sums.{sum_to}
@@ -40,21 +41,15 @@ chosen_same rs covers S R same g =
       only_if_same = λ A ok h i l. g.only_if_same A ok h i l ∙ same i l;
     }
 
--- two truths that imply each other are the same
-both : (a b : Bool) → (a ≡ true → b ≡ true) → (b ≡ true → a ≡ true) → a ≡ b
-both true b f g = sym (f refl)
-both false true f g = g refl
-both false false f g = refl
-
 pub one_greatest : OneGreatest
-one_greatest rs covers S R s r i l = both (S i) (R i) (r.holds S s.admissible i l) (s.holds R r.admissible i l)
+one_greatest rs covers S R s r i l = both_ways (S i) (R i) (r.holds S s.admissible i l) (s.holds R r.admissible i l)
 
 pub greatest_is_chosen : GreatestIsChosen
 greatest_is_chosen rs covers S g =
     record {
       admissible = g.admissible;
       if_same = λ A ok e i l B fine b. e i l ∙ g.holds B fine i l b;
-      only_if_same = λ A ok h i l. both (A i) (S i) (g.holds A ok i l) (h i l S g.admissible);
+      only_if_same = λ A ok h i l. both_ways (A i) (S i) (g.holds A ok i l) (h i l S g.admissible);
     }
 
 pub grows_with_covers : GrowsWithCovers

@@ -1,7 +1,7 @@
 -- Laws of sum_to.
-use Rattle.std.proofs.Common.{◌≡◌, ℕ, zero, suc, ◌+◌, ◌*◌, ◌<◌, ◌≤◌, cond, eqb, ◌⊎◌, refl, ap, ◌∙◌, inl, inr, suc-mul, arith}
+use Rattle.std.proofs.Common.{◌≡◌, ℕ, zero, suc, ◌+◌, ◌*◌, ◌<◌, ◌≤◌, cond, eqb, refl, ap, ◌∙◌, inl, inr, suc-mul, arith}
 use Rattle.std.proofs.lemmas.Bool.Decides.{nat_tests}
-use Rattle.std.proofs.lemmas.Bool.{cases_eq, cases_order}
+use Rattle.std.proofs.lemmas.Bool.{cases_eq}
 use Rattle.netting.specs.Sums.{sum_to}
 
 pub sum_to_le : (f g : ℕ → ℕ) (n : ℕ) → ((i : ℕ) → i < n → f i ≤ g i) → sum_to f n ≤ sum_to g n
@@ -47,7 +47,7 @@ sum_to_but f g p d (suc n) l e h =
     elim (cases_eq n p) [
       | inl q ↦ let s = sum_to_same f g n (λ i k. h i (omega arith) (λ r. omega arith)) in
           let t : f n ≡ g n + d = rw q e in omega arith
-      | inr q ↦ let ih = sum_to_but f g p d n (let w : (n ≡ p) ⊎ (p < n) = elim (cases_order n p) [ inl x ↦ inl x | inr y ↦ inr (elim y [ inl a ↦ omega arith | inr b ↦ b ]) ] in elim w [ inl x ↦ absurd (q x) | inr y ↦ y ]) e (λ i k. h i (omega arith)) in
+      | inr q ↦ let ih = sum_to_but f g p d n (omega arith) e (λ i k. h i (omega arith)) in
           let at = h n (omega arith) q in omega arith
     ]
 

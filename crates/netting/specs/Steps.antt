@@ -26,7 +26,7 @@ NoneFrom rs S h n = (i : ℕ) → n ≤ i → i < length rs → S i ≡ true →
 -- R is S but for the payment at p, which left
 pub record Without (S : Selection) (p : ℕ) (R : Selection) : Type 0 where
   pub gone : R p ≡ false
-  pub rest : (i : ℕ) → (i ≢ p) → R i ≡ S i
+  pub rest : (i : ℕ) → i ≢ p → R i ≡ S i
 
 -- how many payments S holds
 abbrev pub count : List Record → Selection → ℕ

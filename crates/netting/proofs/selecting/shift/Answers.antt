@@ -3,7 +3,6 @@ use Rattle.std.proofs.lemmas.Int.{ints}
 use Rattle.netting.proofs.Shifts.{shifted, set_at}
 use Rattle.netting.proofs.selecting.shift.Goals as goal
 
--- src/selecting.rt:14:1
 pub returns : goal.returns
 returns c =
     let a = c.requires.within c.args.from c.requires.from in

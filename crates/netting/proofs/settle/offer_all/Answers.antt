@@ -9,4 +9,5 @@ returns g c =
           c.offer.ensures.answer c.offer.ensures.covers_after c.offer.ensures.sittings_after;
       denial_alters_nothing = c.offer.ensures.denial_alters_nothing;
       all = c.select_all.ensures.all;
+      positions = c.select_all.ensures.step.at;
     }

@@ -15,4 +15,5 @@ returns-in_default g c =
           c.offers.invariant.1 c.offer.ensures.answer c.in_default.not-Short c.offer.ensures.covers_after
           c.offer.ensures.sittings_after;
       denial_alters_nothing = λ d. c.offer.ensures.denial_alters_nothing d ∙ c.offers.invariant.2;
+      positions = rw (← c.select_all.auto.positions) c.offers.invariant.0.at;
     }
