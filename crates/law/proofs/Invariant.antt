@@ -1,7 +1,7 @@
 -- What holds of a day after any calls.
 use Rattle.std.proofs.Common.{◌≡◌, ℕ, ◌+◌, ◌<◌, ◌≤◌, Bool, true, false, cond, ◌||◌, ◌⊎◌, List, [], ◌∷◌, ◌++◌, map, length, get_or, take, MatchBool, sym, ap, ◌∙◌, subst, inl, inr, arith}
 use Rattle.std.proofs.lemmas.List.{length-map, length-append, take-append-le}
-use Rattle.std.proofs.lemmas.Bool.{cases_Bool, both_ways, or_right}
+use Rattle.std.proofs.lemmas.Bool.{cases_Bool, both_ways, or_right, MatchBool-at_true, MatchBool-at_false}
 use Rattle.netting.specs.Selections.{marked, Chosen}
 use Rattle.records.specs.declared.recorded.Record.{Record}
 use Rattle.netting.proofs.Choice.{chosen_same}
@@ -119,12 +119,6 @@ advance opening e t p rs cs p' rs' cs' i a =
       late = λ l. or_right (settles e) (some_settles t) (i.late (a.late l));
     }
 
-when_is : (P Q : Type 0) (b : Bool) → b ≡ true → MatchBool b P Q → P
-when_is P Q b e w = subst (λ (x : Bool). MatchBool x P Q) e w
-
-when_not : (P Q : Type 0) (b : Bool) → b ≡ false → MatchBool b P Q → Q
-when_not P Q b e w = subst (λ (x : Bool). MatchBool x P Q) e w
-
 settled_at : (later : List Event) (e : Event) (before : List Event) → settles e ≡ true → some_settles (later ++ e ∷ before) ≡ true
 settled_at [] e before s = ap (λ (b : Bool). b || some_settles before) s
 settled_at (x ∷ later) e before s = or_right (settles x) (some_settles (later ++ e ∷ before)) (settled_at later e before s)
@@ -133,9 +127,9 @@ settled_at (x ∷ later) e before s = or_right (settles x) (some_settles (later 
 pub morning_at : (opening : List ℕ) (later : List Event) (e : Event) (before : List Event) (rs : List Record) → settles e ≡ true
     → some_settles before ≡ false → MorningLaw opening (later ++ e ∷ before) rs → Judged opening before rs
 morning_at opening [] e before rs s n m =
-    when_is (Judged opening before rs) (Unit {0}) (settles e) s
-    (when_not (MorningLaw opening before rs) (MatchBool (settles e) (Judged opening before rs) (Unit {0})) (some_settles before) n m)
+    MatchBool-at_true (Judged opening before rs) (Unit {0}) s
+    (MatchBool-at_false (MorningLaw opening before rs) (MatchBool (settles e) (Judged opening before rs) (Unit {0})) n m)
 morning_at opening (x ∷ later) e before rs s n m =
     morning_at opening later e before rs s n
-    (when_is (MorningLaw opening (later ++ e ∷ before) rs) (MatchBool (settles x) (Judged opening (later ++ e ∷ before) rs) (Unit {0}))
-    (some_settles (later ++ e ∷ before)) (settled_at later e before s) m)
+    (MatchBool-at_true (MorningLaw opening (later ++ e ∷ before) rs) (MatchBool (settles x) (Judged opening (later ++ e ∷ before) rs) (Unit {0}))
+    (settled_at later e before s) m)

@@ -9,18 +9,14 @@ use Rattle.day.specs.Changes.{in_state, stamp}
 use Rattle.day.specs.Phases.{phase_number}
 use Rattle.day.specs.Scene.{Scene}
 use Rattle.day.specs.Settling.{MorningDone, AfternoonDone}
-use Rattle.day.specs.declared.phase.Phase.{Phase}
-use Rattle.day.specs.declared.phase.Phase.TheVariants.{MorningCalculated, AfternoonCalculated}
+use Rattle.day.specs.declared.phase.Phase.TheVariants.{MorningCalculated}
 use Rattle.law.specs.Laws.{SameMorning}
-
-same_phase : (p q : Phase) → p ≡ q → phase_number p ≡ phase_number q
-same_phase p q e = ap phase_number e
 
 by_morning : (a b : Scene) → a.phase ≡ MorningCalculated → MorningDone a b ⊎ AfternoonDone a b → MorningDone a b
 by_morning a b e d =
     elim d [
       | inl m ↦ m
-      | inr m ↦ absurd (let n = same_phase MorningCalculated AfternoonCalculated (sym e ∙ m.due) in omega arith)
+      | inr m ↦ absurd (let n : 2 ≡ 4 = ap phase_number (sym e ∙ m.due) in omega arith)
     ]
 
 -- marks that select the same settle the same

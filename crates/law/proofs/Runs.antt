@@ -1,10 +1,11 @@
 -- The laws hold wherever events lead from an opening.
-use Rattle.std.proofs.Common.{◌≡◌, ℕ, ◌+◌, Bool, true, false, cond, eqb, ltb, ◌⊎◌, List, [], ◌∷◌, ◌++◌, map, length, get_or, set, MatchBool, Option, sym, refl, ap, ◌∙◌, subst, inl, inr, arith}
+use Rattle.std.proofs.Common.{◌≡◌, ℕ, ◌+◌, Bool, true, false, cond, ltb, ◌⊎◌, List, [], ◌∷◌, ◌++◌, map, length, get_or, set, Option, sym, refl, ap, ◌∙◌, subst, inl, inr, arith}
+use Rattle.std.proofs.lemmas.Bool.{MatchBool-at_true, MatchBool-at_false}
 use Rattle.std.proofs.lemmas.Bool.Decides.{eqb_tells}
 use Rattle.keeper.specs.declared.answer.PayInAnswer.TheVariants as paid
 use Rattle.records.specs.declared.recorded.Record.{Record}
 use Rattle.day.specs.Phases.{phase_number}
-use Rattle.day.specs.Numbers.{calculate_number, exclude_number}
+use Rattle.day.specs.Numbers.{calculate_number}
 use Rattle.day.specs.Answers.{calculate_answer, calculated_from, exclude_answer}
 use Rattle.day.specs.Changes.{settled_at_last, excluded_with}
 use Rattle.day.specs.Scene.{Scene}
@@ -13,13 +14,12 @@ use Rattle.day.specs.declared.phase.Phase.{Phase}
 use Rattle.day.specs.declared.phase.Phase.TheVariants.{MorningCollecting, MorningCalculated, AfternoonCollecting, AfternoonCalculated, Over}
 use Rattle.day.specs.declared.answer.CalculateAnswer.TheVariants as calculate
 use Rattle.day.specs.declared.answer.SettleAnswer.TheVariants as settle
-use Rattle.day.specs.declared.answer.ExcludeAnswer.{ExcludeAnswer}
 use Rattle.day.specs.declared.answer.ExcludeAnswer.TheVariants as exclude
 use Rattle.law.specs.History.{Event, handed_in, calculated, settled, excluded, paid_in, taken}
 use Rattle.law.specs.Runs.{at_opening, Accepted, Does, Ran}
 use Rattle.law.specs.Laws.{LawOfTheDay}
 use Rattle.law.proofs.Invariant.{Inv, Advance, advance}
-use Rattle.law.proofs.Steps.{denied, accepted, collected, paid_to_lem, left_out, rest, morning_settled, opened, kept}
+use Rattle.law.proofs.Steps.{denied, accepted, collected, cover_paid, left_out, rest, morning_settled, opened, kept}
 
 -- what holds of a scene after the events
 abbrev Holds : List ℕ → List Event → Scene → Type 0
@@ -42,12 +42,9 @@ staying AfternoonCalculated e = refl
 staying Over e = refl
 
 -- exclude answers 0 only in the afternoon, calculated
-same_number : (r s : ExcludeAnswer) → r ≡ s → exclude_number r ≡ exclude_number s
-same_number r s e = ap exclude_number e
-
 not_here : (b : Bool) → exclude.Excluded ≡ cond b exclude.WrongPhase exclude.NoSuchHouse → ⊥
-not_here true e = let n = same_number exclude.Excluded exclude.WrongPhase e in omega arith
-not_here false e = let n = same_number exclude.Excluded exclude.NoSuchHouse e in omega arith
+not_here true e = grind arith
+not_here false e = grind arith
 
 fourth : (houses place : ℕ) (o : Option ℕ) (p : Phase) → exclude.Excluded ≡ exclude_answer houses p o place → phase_number p ≡ 4
 fourth houses place o MorningCollecting e = absurd (not_here (ltb place houses) e)
@@ -88,12 +85,6 @@ afternoon opening t a b i m =
     moved opening (settled settle.Settled) t a b 5 (map settled_at_last a.records) b.covers i (ap phase_number m.phase) m.records refl
     (rest (phase_number a.phase) a.records a.covers a.sittings b.covers b.sittings (ap phase_number m.due) m.booked)
 
-when_is : (P Q : Type 0) (b : Bool) → b ≡ true → MatchBool b P Q → P
-when_is P Q b e w = subst (λ (x : Bool). MatchBool x P Q) e w
-
-when_not : (P Q : Type 0) (b : Bool) → b ≡ false → MatchBool b P Q → Q
-when_not P Q b e w = subst (λ (x : Bool). MatchBool x P Q) e w
-
 -- a file that is answered 0
 filed : (opening : List ℕ) (t : List Event) (control messages number : ℕ) (a b : Scene) → Holds opening t a → number ≡ 0
     → Accepted control messages a b → Holds opening (handed_in control messages number ∷ t) b
@@ -105,9 +96,9 @@ filed opening t control messages number a b i z f =
 step : (opening : List ℕ) (t : List Event) (houses : ℕ) (a b : Scene) (i : Holds opening t a) (e : Event) → Does houses e a b → Holds opening (e ∷ t) b
 step opening t houses a b i (handed_in control messages number) d =
     elim (eqb_tells number 0) [
-      | inl z ↦ filed opening t control messages number a b i z.1 (when_is (Accepted control messages a b) _ (eqb number 0) z.0 d)
+      | inl z ↦ filed opening t control messages number a b i z.1 (MatchBool-at_true (Accepted control messages a b) _ z.0 d)
       | inr z ↦ unmoved opening (handed_in control messages number) t a b i
-          (when_not (Accepted control messages a b) (Unmoved a b × (b.remembered ≡ a.remembered)) (eqb number 0) z.0 d).0 z.0
+          (MatchBool-at_false (Accepted control messages a b) (Unmoved a b × (b.remembered ≡ a.remembered)) z.0 d).0 z.0
     ]
 step opening t houses a b i (calculated calculate.Calculated) d =
     let c = collecting a.phase d.0 in
@@ -129,7 +120,7 @@ step opening t houses a b i (excluded place exclude.WrongPhase) d = stayed openi
 step opening t houses a b i (excluded place exclude.NotRemembered) d = stayed opening (excluded place exclude.NotRemembered) t a b i d.3 d.1 d.4 refl
 step opening t houses a b i (paid_in place amount paid.Taken) d =
     moved opening (paid_in place amount paid.Taken) t a b (phase_number a.phase) a.records (set a.covers place (get_or a.covers place 0 + amount)) i
-    (ap phase_number d.2) d.4 d.1 (paid_to_lem place amount (phase_number a.phase) a.records a.covers)
+    (ap phase_number d.2) d.4 d.1 (cover_paid place amount (phase_number a.phase) a.records a.covers)
 step opening t houses a b i (paid_in place amount paid.NoSuchHouse) d = stayed opening (paid_in place amount paid.NoSuchHouse) t a b i d.2 d.4 d.1 refl
 step opening t houses a b i (paid_in place amount paid.Refused) d = stayed opening (paid_in place amount paid.Refused) t a b i d.2 d.4 d.1 refl
 

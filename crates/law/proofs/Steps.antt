@@ -2,7 +2,7 @@
 use Rattle.std.proofs.Common.{◌≡◌, ℕ, ◌+◌, ◌<◌, Bool, false, cond, eqb, ◌≢◌, ◌⊎◌, List, [], ◌∷◌, ◌++◌, map, length, get_or, take, set, sym, refl, ap, ◌∙◌, subst, inl, inr, arith}
 use Rattle.std.proofs.lemmas.Bool.Decides.{eqb_tells, nat_tests}
 use Rattle.std.proofs.lemmas.List.{length-map, length-append, length-set, map-append, append-nil, take_all, get_or_past, get_or-set_same, get_or-set_other}
-use Rattle.std.proofs.lemmas.Bool.{and_right, false≢true}
+use Rattle.std.proofs.lemmas.Bool.{and_right, cond-false, false≢true}
 use Rattle.keeper.specs.declared.answer.PayInAnswer.TheVariants as paid
 use Rattle.records.specs.declared.recorded.Record.{Record}
 use Rattle.netting.specs.Payments.{waiting, is_from, is_to}
@@ -38,9 +38,6 @@ grows_map f rs h m =
       same = λ i. ap (λ (xs : List Bool). get_or xs i false) (sym (map_kept in_morning f rs m));
     }
 
-zero_if : (b : Bool) (n : ℕ) → b ≡ false → cond b n 0 ≡ 0
-zero_if b n e = ap (λ (x : Bool). cond x n 0) e
-
 paid_denied : (e : Event) (cs : List ℕ) → taken e ≡ false → cs ≡ covers_paid_by e cs
 paid_denied (handed_in control messages number) cs d = refl
 paid_denied (calculated r) cs d = refl
@@ -57,10 +54,10 @@ denied e p rs cs d =
     record {
       long = refl;
       quiet = inl q;
-      controls = let z = zero_if (taken e) (control_of e) d in omega arith;
-      paid = λ h l. let z = zero_if (taken e) (pay_in_for h e) d in omega arith;
+      controls = let z = cond-false (taken e) (control_of e) 0 d in omega arith;
+      paid = λ h l. let z = cond-false (taken e) (pay_in_for h e) 0 d in omega arith;
       grows = grows_same rs;
-      early = λ l. (l, q, paid_denied e cs d, (λ x. x), (let z = zero_if (taken e) (messages_of e) d in omega arith));
+      early = λ l. (l, q, paid_denied e cs d, (λ x. x), (let z = cond-false (taken e) (messages_of e) 0 d in omega arith));
       late = λ l. l;
     }
 
@@ -121,8 +118,8 @@ set_gain xs q n h l =
           grind (arith, nat_tests)
     ]
 
-pub paid_to_lem : (q a p : ℕ) (rs : List Record) (cs : List ℕ) → Advance (paid_in q a paid.Taken) p rs cs p rs (set cs q (get_or cs q 0 + a))
-paid_to_lem q a p rs cs =
+pub cover_paid : (q a p : ℕ) (rs : List Record) (cs : List ℕ) → Advance (paid_in q a paid.Taken) p rs cs p rs (set cs q (get_or cs q 0 + a))
+cover_paid q a p rs cs =
     record {
       long = length-set cs q _;
       quiet = inl refl;
