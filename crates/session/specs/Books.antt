@@ -27,6 +27,11 @@ abbrev pub pledges_in : AnyBook → List ℕ
 pledges_in (Account b) = []
 pledges_in (Guarantee b) = vec_items b.pledges
 
+-- the pledges of a book that is opened with these sums
+abbrev pub pledges_at : Kind → List ℕ → List ℕ
+pledges_at kind.Account sums = []
+pledges_at kind.Guarantee sums = sums
+
 -- Of several short houses an account book names the one of lowest place, a guarantee book the one with the greatest shortage.
 abbrev pub Names : AnyBook → List ℤ → OfferAnswer → Type 0
 Names (Account b) ps answer = NamesLowest (vec_items b.balances) ps answer

@@ -9,17 +9,18 @@ use Rattle.keeper.specs.declared.answer.PayInAnswer.{PayInAnswer}
 use Rattle.script.specs.declared.command.Kind.{Kind}
 use Rattle.script.specs.declared.command.LineError.{LineError}
 use Rattle.script.specs.declared.command.LineError.TheVariants.{NoBook, NoMemory}
-use Rattle.session.specs.Books.{kind_of, covers_in, sittings_in, pledges_in, Names}
+use Rattle.session.specs.Books.{kind_of, covers_in, sittings_in, pledges_in, pledges_at, Names}
 use Rattle.session.specs.declared.any_book.AnyBook.{AnyBook}
 use Rattle.session.specs.declared.answer.BookAnswer.{BookAnswer}
 use Rattle.session.specs.declared.answer.BookAnswer.TheVariants.{Opened, Denied}
 
--- there is a book, of this kind, with these covers and sittings
+-- there is a book, of this kind, with these sums as its covers, and as its pledges if it has some, and these sittings
 pub record Holds (book : Option AnyBook) (kind : Kind) (covers : List ℕ) (sittings : ℕ) : Type 0 where
   pub held : AnyBook
   pub there : book ≡ Some held
   pub of_kind : kind_of held ≡ kind
   pub covers_are : covers_in held ≡ covers
+  pub pledges_are : pledges_in held ≡ pledges_at kind covers
   pub sittings_are : sittings_in held ≡ sittings
 
 -- a book is opened by the rules of opening; one that is denied, or that keeps them all and finds no memory, leaves the one before it

@@ -1,7 +1,7 @@
 // A book of any kind is opened.
 ghost use Rattle.std.specs.Prelude.{◌≡◌, MatchResult};
 ghost use Rattle.books.specs.Opening.{Openable, OpenDenied};
-ghost use Rattle.session.specs.Books.{covers_in, sittings_in, kind_of, book_number};
+ghost use Rattle.session.specs.Books.{covers_in, sittings_in, kind_of, book_number, pledges_in, pledges_at};
 
 use crate::answer::BookAnswer;
 use crate::any_book::AnyBook;
@@ -26,7 +26,7 @@ pub(crate) fn open_kind(
     sums: &[u64],
     sittings: u64,
 ) -> Result<AnyBook, OpenDenial>
-    ensures { MatchResult result (λ b. Openable sums.now sittings × (kind_of b ≡ kind) × (covers_in b ≡ sums.now) × (sittings_in b ≡ sittings)) (λ e. OpenDenied sums.now sittings e) }
+    ensures { MatchResult result (λ b. Openable sums.now sittings × (kind_of b ≡ kind) × (covers_in b ≡ sums.now) × (pledges_in b ≡ pledges_at kind sums.now) × (sittings_in b ≡ sittings)) (λ e. OpenDenied sums.now sittings e) }
 {
     match kind {
         Kind::Account => Ok(AnyBook::Account(AccountBook::open(heap, sums, sittings)?)),
