@@ -25,7 +25,7 @@ text_payable digits slot reads hs terms sender c h (Err f) sound e t = tt
 text_payable digits slot reads hs terms sender c h (Ok ps) sound e t =
     let r = header_receiver digits hs sender c h e in
     let p = sound terms h.bic (fields_in h.text) ps (by_form (formed h.text) _ _ ps t) in
-    record { house = r.0; other = r.1; reference = p.reference; some = p.some; few = p.few }
+    record { house = r.house; active = r.active; other = r.other; reference = p.reference; some = p.some; few = p.few }
 
 header_payable : (digits : List ℕ) (slot : ℕ) (reads : Reads) (hs : List House) (terms : Terms) (sender : ℕ) (c : List ℕ) (x : Result HeaderParts Fault)
     → Sound slot reads → header_of digits hs sender c ≡ x → PayableIf hs sender (verdict_in slot reads terms x)
