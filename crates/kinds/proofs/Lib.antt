@@ -1,2 +1,1 @@
-pub mod Negations
 pub mod Payables
