@@ -1,5 +1,6 @@
 pub mod Steps
 pub mod Builds
+pub mod Bics
 pub mod Found
 pub mod Opens
 pub mod Kept

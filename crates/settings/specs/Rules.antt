@@ -1,5 +1,5 @@
 -- The rules of opening, as tests. Assumes nothing.
-use Rattle.std.specs.Prelude.{ℕ, Bool, true, false, not, ◌&&◌, ◌||◌, List, [], ◌∷◌, length, nat_le}
+use Rattle.std.specs.Prelude.{◌≡◌, ◌≢◌, ℕ, ◌<◌, Bool, true, false, not, ◌&&◌, ◌||◌, List, [], ◌∷◌, length, get_or, nat_le, Decides}
 use Rattle.std.specs.Str.{bytes_eq}
 use Rattle.codes.specs.Bics.{bic_formed}
 use Rattle.values.specs.Calendar.{valid_date}
@@ -24,10 +24,19 @@ among t (e ∷ es) = bytes_eq t (entry_text e) || among t es
 abbrev pub bic_kept : List ℕ → List HouseEntry → Bool
 bic_kept t later = bic_formed t && not (among t later)
 
--- the BIC of every house is so: they are all formed, and all differ
+-- the BIC of every house is so
 abbrev pub bics_kept : List HouseEntry → Bool
 bics_kept [] = true
 bics_kept (e ∷ es) = bic_kept (entry_text e) es && bics_kept es
+
+-- the BICs are all formed, and those at two places differ
+pub record Distinct (es : List HouseEntry) : Type 0 where
+  pub formed : (i : ℕ) (d : HouseEntry) → i < length es → bic_formed (entry_text (get_or es i d)) ≡ true
+  pub differ : (i j : ℕ) (d : HouseEntry) → i < j → j < length es → entry_text (get_or es i d) ≢ entry_text (get_or es j d)
+
+-- the test tells just that
+abbrev pub BicsLaw : Type 0
+BicsLaw = (es : List HouseEntry) → Decides (bics_kept es) (Distinct es)
 
 -- 1 to 64 houses, whose BICs are formed and differ, also from the clearing's, c
 abbrev pub houses_kept : List ℕ → List HouseEntry → Bool

@@ -1,7 +1,7 @@
 // Settings opened, and what they answer.
 ghost use Rattle.std.specs.Prelude.{◌≡◌, ℕ, ◌≤◌, length, Some as Just, MatchOption, ◌≢◌};
 ghost use Rattle.settings.specs.Places.{place_of, bic_at, suspended_at};
-ghost use Rattle.settings.specs.Rules.{house_limit};
+ghost use Rattle.settings.specs.Rules.{house_limit, BicsLaw};
 ghost use Rattle.settings.specs.Opened.{Opened, houses_of};
 
 use crate::answers::OpenDenial;
@@ -17,7 +17,8 @@ use values::dates::Date;
 impl Settings {
     // Settings that hold what is given, where it keeps the rules and there is memory for the houses.
     pub fn open(heap: Global, opening: &Opening) -> Result<Settings, OpenDenial>
-        ensures { Opened opening.now result }
+        ensures opened { Opened opening.now result }
+        ensures law { BicsLaw }
     {
         let Some(date) = Date::new(opening.year, opening.month, opening.day) else {
             return Err(OpenDenial::BreaksRule);
