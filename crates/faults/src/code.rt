@@ -1,6 +1,6 @@
 // What a failed check is called and where it failed.
 
-// One code a check, in the order of the checks.
+// The codes: those of the frame in the order of their checks, the others by letter and number.
 #[derive(Clone, Copy, PartialEq, Eq, Debug)]
 pub enum Code {
     // the frame's blocks

@@ -60,6 +60,6 @@ abbrev pub control_in : Option Parts → Bic → Bic → Currency → Option Con
 control_in None s k m = None
 control_in (Some p) s k m = cond (is_addressed p s k) (stated_in (fields_in p.text) m) None
 
--- what the control message of the sender s to the clearing k in the currency m states, unless the content is none
+-- what the control message of the sender s to the clearing k in the currency m states, unless the content is no control message
 abbrev pub control_of : List ℕ → Bic → Bic → Currency → Option Control
 control_of c s k m = control_in (blocks_of c) s k m

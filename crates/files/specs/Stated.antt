@@ -49,6 +49,6 @@ pub record IsStated (r : List ℕ) (m : Currency) (c : Control) : Type 0 where
   pub count : c.count ≡ number digits
   pub total : amount_of amount ≡ Some c.total
 
--- what is read is such a row, and every such row is read
+-- what is read is such a row, and every such row is read; a Currency as a record of specs does not carry that it has three letters, so that it has some is a premise
 abbrev pub StatedLaw : Type 0
 StatedLaw = (r : List ℕ) (m : Currency) (c : Control) → 0 < length m.letters → (stated_of r m ≡ Some c → IsStated r m c) × (IsStated r m c → stated_of r m ≡ Some c)

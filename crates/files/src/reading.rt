@@ -26,7 +26,7 @@ const TOTAL: u8 = 90;
 
 const TOTAL_LETTER: u8 = b'C';
 
-// What the control message of this sender to the clearing states, unless it is none.
+// What the control message of this sender to the clearing states, unless the content is no control message.
 pub fn read_control(
     content: &[u8],
     sender: Bic,

@@ -12,7 +12,7 @@ reference_width = 16
 abbrev pub spelled : ℕ → List ℕ
 spelled n = digits_of 256 n
 
--- a reference: 1 to 16 permitted characters
+-- what the key of a reference can hold: 1 to 16 permitted characters; the rule on slashes is text's is_reference
 abbrev pub reference_form : List ℕ → Bool
 reference_form t = nat_le 1 (length t) && (nat_le (length t) reference_width && every (belongs Permitted) t)
 
