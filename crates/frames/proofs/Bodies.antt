@@ -14,13 +14,13 @@ unclosed_more b (c ∷ cs) e h =
     let p = and_parts (unclosed c) (all_unclosed cs) h in
     and_from (unclosed (b ∷ c)) (all_unclosed cs) (and_from (not (eqb b etx)) (unclosed c) (not_from_false (eqb b etx) e) p.0) p.1
 
-if-closed : (v : Bool) (cs : List (List ℕ)) → all_unclosed cs ≡ true → all_unclosed (cond v ([] ∷ cs) []) ≡ true
-if-closed true cs h = h
-if-closed false cs h = refl
+if_closed : (v : Bool) (cs : List (List ℕ)) → all_unclosed cs ≡ true → all_unclosed (cond v ([] ∷ cs) []) ≡ true
+if_closed true cs h = h
+if_closed false cs h = refl
 
-if-opened : (v : Bool) (cs : List (List ℕ)) → all_unclosed cs ≡ true → all_unclosed (cond v cs []) ≡ true
-if-opened true cs h = h
-if-opened false cs h = refl
+if_opened : (v : Bool) (cs : List (List ℕ)) → all_unclosed cs ≡ true → all_unclosed (cond v cs []) ≡ true
+if_opened true cs h = h
+if_opened false cs h = refl
 
 by_closing : (b : ℕ) (here more : List (List ℕ)) (v : Bool) → eqb b etx ≡ v → all_unclosed here ≡ true → all_unclosed more ≡ true → all_unclosed (cond v here (on_first b more)) ≡ true
 by_closing b here more true e h k = h
@@ -28,12 +28,12 @@ by_closing b here more false e h k = unclosed_more b more e k
 
 frames_unclosed : (s : Bool) (b : List ℕ) → all_unclosed (frames_from s b) ≡ true
 frames_unclosed false [] = refl
-frames_unclosed false (b ∷ t) = if-opened (eqb b soh) (frames_from true t) (frames_unclosed true t)
+frames_unclosed false (b ∷ t) = if_opened (eqb b soh) (frames_from true t) (frames_unclosed true t)
 frames_unclosed true [] = refl
 frames_unclosed true (b ∷ []) = refl
 frames_unclosed true (b ∷ c ∷ []) = refl
 frames_unclosed true (b ∷ c ∷ d ∷ t) =
-    by_closing b _ (frames_from true (c ∷ d ∷ t)) (eqb b etx) refl (if-closed (begins crlf (c ∷ d ∷ t)) (frames_from false t) (frames_unclosed false t)) (frames_unclosed true (c ∷ d ∷ t))
+    by_closing b _ (frames_from true (c ∷ d ∷ t)) (eqb b etx) refl (if_closed (begins crlf (c ∷ d ∷ t)) (frames_from false t) (frames_unclosed false t)) (frames_unclosed true (c ∷ d ∷ t))
 
 content_read : (c rest : List ℕ) → unclosed c ≡ true → frames_from true ((c ++ etx ∷ crlf) ++ rest) ≡ c ∷ frames_in rest
 content_read [] rest h = refl

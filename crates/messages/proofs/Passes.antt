@@ -47,7 +47,7 @@ positive (suc k) never = omega arith
 -- an amount that is neither bad nor over the limit
 pub within : (a : Option ℕ) → bad_amount a ≡ false → over_limit a ≡ false → (1 ≤ or_nothing a) × (or_nothing a ≤ limit)
 within None z o = absurd (let y : ◌≡◌ {A = Bool} true false = z in let x : ◌≡◌ {A = ℕ} 0 1 = cc in omega arith)
-within (Some k) z o = let not-nothing = eqb-false k 0 z in let few = ltb-false limit k o in (positive k not-nothing, few)
+within (Some k) z o = let not_nothing = eqb-false k 0 z in let few = ltb-false limit k o in (positive k not_nothing, few)
 
 counts : (r : List ℕ) → is_value r ≡ true → counted_of r ≡ or_nothing (amount_of (amount_in r))
 counts r v = cond-true (is_value r) _ _ v

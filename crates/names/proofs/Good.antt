@@ -108,11 +108,11 @@ taken name day last f g =
     let d2 : drop 2 name ≡ g.day_digits ++ rest = ap (drop 2) g.whole ∙ w.1 in
     let d5 : drop 5 name ≡ rest = sym (drop-drop 3 2 name) ∙ ap (drop 3) d2 ∙ drop_at g.day_digits rest 3 g.three in
     let d9 : drop 9 name ≡ g.extension = sym (drop-drop 4 5 name) ∙ ap (drop 4) d5 ∙ drop_at g.number_digits g.extension 4 g.four in
-    let day-is : numeral (take 3 (drop 2 name)) ≡ Some day = ap (λ u. numeral (take 3 u)) d2 ∙ ap numeral (take_at g.day_digits rest 3 g.three) ∙ g.tells_day in
+    let day_is : numeral (take 3 (drop 2 name)) ≡ Some day = ap (λ u. numeral (take 3 u)) d2 ∙ ap numeral (take_at g.day_digits rest 3 g.three) ∙ g.tells_day in
     let number_is : numeral (take 4 (drop 5 name)) ≡ Some f.number = ap (λ u. numeral (take 4 u)) d5 ∙ ap numeral (take_at g.number_digits g.extension 4 g.four) ∙ g.tells_number in
     let size = ap length d9 ∙ known_size g.extension g.is_known in
     let m = length-drop 9 name in
-    cond-true _ _ _ (eq-eqb (length name) name_size (omega arith)) ∙ (λ i. parts_verdict (k i) (day-is i) (number_is i) (d9 i) day last) ∙ parts_taken f.kind f.number g.extension day last g.is_next g.is_known
+    cond-true _ _ _ (eq-eqb (length name) name_size (omega arith)) ∙ (λ i. parts_verdict (k i) (day_is i) (number_is i) (d9 i) day last) ∙ parts_taken f.kind f.number g.extension day last g.is_next g.is_known
 
 pub name_law : NameLaw
 name_law name day last f = (accepted name day last f, taken name day last f)

@@ -32,7 +32,7 @@ fields_if t true = refl
 fields_if t false = refl
 
 -- the field at hand before those that are left is what was to come
-pub with_next_lem : (r : Option Tagged) (fs later : List Parts)
+pub with_next_is : (r : Option Tagged) (fs later : List Parts)
     → fs ≡ elim r [ None ↦ [] | Some f ↦ record { tag = f.tag; rows = rows_of f.bytes.now } ∷ later ] → with_next r later ≡ fs
-with_next_lem None fs later e = sym e
-with_next_lem (Some f) fs later e = sym e
+with_next_is None fs later e = sym e
+with_next_is (Some f) fs later e = sym e

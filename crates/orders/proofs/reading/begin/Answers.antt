@@ -4,11 +4,11 @@ use Rattle.text.specs.Texts.{formed}
 use Rattle.cuts.specs.Cuts.{fields_of}
 use Rattle.orders.specs.Orders.{fields_in}
 use Rattle.orders.specs.ToCome.{to_come}
-use Rattle.orders.proofs.Some.{some, fields_if, with_next_lem}
+use Rattle.orders.proofs.Some.{some, fields_if, with_next_is}
 use Rattle.orders.proofs.reading.begin.Goals as goal
 
 pub returns : goal.returns
 returns c =
     let all : to_come (record { next = c.next-next.result; after = c.next-next.new.self }) ≡ fields_in c.args.text.now =
-    with_next_lem c.next-next.result _ _ c.next-next.ensures.fields ∙ ap (λ t. fields_of (rows_of t)) c.of-after.ensures.all ∙ fields_if c.args.text.now (formed c.args.text.now) in
+    with_next_is c.next-next.result _ _ c.next-next.ensures.fields ∙ ap (λ t. fields_of (rows_of t)) c.of-after.ensures.all ∙ fields_if c.args.text.now (formed c.args.text.now) in
     record { all = all; some = ap (λ l. eqb (length l) 0) all ∙ some c.args.text.now }
