@@ -4,6 +4,7 @@ use Rattle.std.proofs.lemmas.Slice.Eq.{bytes_eq-Decides}
 use Rattle.std.proofs.lemmas.List.{take-append-drop}
 use Rattle.std.proofs.lemmas.Bool.{cond-true, cond-false, and_parts, and_from, leb-true, cases_Bool}
 use Rattle.std.proofs.lemmas.Bool.Decides.{nat_tests}
+use Rattle.std.proofs.Math.Seq.{take-append_seam, drop-append_seam}
 use Rattle.std.specs.Str.{bytes_eq}
 use Rattle.text.specs.Chars.{belongs, every, leading}
 use Rattle.text.specs.declared.class.Class.TheVariants.{Digit, Capital}
@@ -26,14 +27,6 @@ front_over p [] u h z = z
 front_over p (d ∷ ds) u h z =
     let q = and_parts (p d) (every p ds) h in
     cond-true (p d) _ _ q.0 ∙ ap suc (front_over p ds u q.1 z)
-
-take_over : (ds u : List ℕ) → take (length ds) (ds ++ u) ≡ ds
-take_over [] u = refl
-take_over (d ∷ ds) u = ap (λ t. d ∷ t) (take_over ds u)
-
-drop_over : (ds u : List ℕ) → drop (length ds) (ds ++ u) ≡ u
-drop_over [] u = refl
-drop_over (d ∷ ds) u = drop_over ds u
 
 no_digit : (x : ℕ) → belongs Capital x ≡ true → belongs Digit x ≡ false
 no_digit x h =
@@ -98,11 +91,11 @@ is_read m c ds a l d s f n t =
     let ls : List ℕ = m.letters in
     let r : List ℕ = ds ++ (m.letters ++ a) in
     let front : digits_in_front r ≡ length ds = front_over (belongs Digit) ds (ls ++ a) d (no_digit_first ls a l m.capital) in
-    let taken : take (digits_in_front r) r ≡ ds = ap (λ k. take k r) front ∙ take_over ds (ls ++ a) in
-    let rest : drop (digits_in_front r) r ≡ ls ++ a = ap (λ k. drop k r) front ∙ drop_over ds (ls ++ a) in
-    let same : bytes_eq (take (length ls) (drop (digits_in_front r) r)) ls ≡ true = (bytes_eq-Decides _ ls).1 (ap (take (length ls)) rest ∙ take_over ls a) in
+    let taken : take (digits_in_front r) r ≡ ds = ap (λ k. take k r) front ∙ take-append_seam ds (ls ++ a) in
+    let rest : drop (digits_in_front r) r ≡ ls ++ a = ap (λ k. drop k r) front ∙ drop-append_seam ds (ls ++ a) in
+    let same : bytes_eq (take (length ls) (drop (digits_in_front r) r)) ls ≡ true = (bytes_eq-Decides _ ls).1 (ap (take (length ls)) rest ∙ take-append_seam ls a) in
     let count : count_of (take (digits_in_front r) r) ≡ Some c.count = ap count_of taken ∙ cond-true (leb 1 (length ds) && leb (length ds) 3) _ _ (grind (arith, nat_tests)) ∙ ap (λ x. Some x) (sym n) in
-    let total : amount_of (drop (length ls) (drop (digits_in_front r) r)) ≡ Some c.total = ap (λ x. amount_of (drop (length ls) x)) rest ∙ ap amount_of (drop_over ls a) ∙ t in
+    let total : amount_of (drop (length ls) (drop (digits_in_front r) r)) ≡ Some c.total = ap (λ x. amount_of (drop (length ls) x)) rest ∙ ap amount_of (drop-append_seam ls a) ∙ t in
     cond-true (bytes_eq (take (length ls) (drop (digits_in_front r) r)) ls) _ _ same ∙ (λ i. pairing (count i) (total i))
 
 pub stated_law : StatedLaw

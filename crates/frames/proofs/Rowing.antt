@@ -1,8 +1,9 @@
 -- How the first row is cut from bytes, and bytes put together from their rows. Assumes nothing.
-use Rattle.std.proofs.Common.{◌≡◌, ℕ, suc, ◌+◌, ◌-◌, ◌<◌, ◌≤◌, Bool, true, false, cond, not, eqb, List, [], ◌∷◌, ◌++◌, length, get_or, take, drop, sym, refl, ap, ◌∙◌, add-zero, arith}
+use Rattle.std.proofs.Common.{◌≡◌, ℕ, suc, ◌+◌, ◌<◌, ◌≤◌, Bool, true, false, cond, not, eqb, List, [], ◌∷◌, ◌++◌, length, get_or, take, drop, sym, refl, ap, ◌∙◌, arith}
 use Rattle.std.specs.List.{flat_map}
-use Rattle.std.proofs.lemmas.List.{length-drop, drop_more, get_or-drop, at_drop_all, append_assoc}
+use Rattle.std.proofs.lemmas.List.{drop_more, at_drop_all, append_assoc}
 use Rattle.std.proofs.lemmas.Bool.{cond-true, cond-false, and_parts, and_from, not-true, not_from_false, and_right, false≢true}
+use Rattle.text.proofs.Cuts.{next_is}
 use Rattle.frames.specs.Fixed.{crlf, begins, on_first}
 use Rattle.frames.specs.Rows.{ended_rows, crlf_place, uncut, all_uncut, AreRows, RowsLaw}
 use Rattle.frames.proofs.Begins.{begins_front}
@@ -14,9 +15,6 @@ place_cons b (c ∷ t) h = cond-false (begins crlf (b ∷ c ∷ t)) 0 (suc (crlf
 place_here : (b : ℕ) (t : List ℕ) → begins crlf (b ∷ get_or t 0 0 ∷ []) ≡ true → crlf_place (b ∷ t) ≡ 0
 place_here b [] h = absurd (false≢true (and_parts (eqb b 13) false h).1)
 place_here b (c ∷ t) h = cond-true (begins crlf (b ∷ c ∷ t)) 0 (suc (crlf_place (c ∷ t))) h
-
-next_is : (s : List ℕ) (i : ℕ) → get_or (drop (i + 1) s) 0 0 ≡ get_or s (i + 1) 0
-next_is s i = get_or-drop (i + 1) s 0 0 ∙ ap (λ k. get_or s k 0) (add-zero (i + 1))
 
 pub place_no : (s : List ℕ) (i : ℕ) → i < length s → begins crlf (get_or s i 0 ∷ get_or s (i + 1) 0 ∷ []) ≡ false → crlf_place (drop i s) ≡ suc (crlf_place (drop (i + 1) s))
 place_no s i h e = ap crlf_place (drop_more s i 0 h) ∙ place_cons (get_or s i 0) (drop (i + 1) s) (ap (λ c. begins crlf (get_or s i 0 ∷ c ∷ [])) (next_is s i) ∙ e)
@@ -56,12 +54,6 @@ pub row_some : (t row after rest : List ℕ) (n : ℕ) → n ≡ crlf_place t �
 row_some t row after rest n e h f g k =
     let y : rest ≡ drop 2 (drop n t) = k ∙ ap (drop 2) g in
     some_row t (omega arith) ∙ ap (Cut t) (sym e) ∙ (λ i. sym f i ∷ ended_rows (sym y i))
-
-pub row_shorter : (t after rest : List ℕ) (n : ℕ) → n < length t → after ≡ drop n t → rest ≡ drop 2 after → length rest < length t
-row_shorter t after rest n h e f =
-    let x : length after ≡ length t - n = ap length e ∙ length-drop n t in
-    let y : length rest ≡ length after - 2 = ap length f ∙ length-drop 2 after in
-    omega arith
 
 -- one byte on in a row
 rows_more : (b : ℕ) (t : List ℕ) → ended_rows (b ∷ t) ≡ cond (begins crlf (b ∷ t)) ([] ∷ ended_rows (drop 1 t)) (on_first b (ended_rows t))
