@@ -1,3 +1,2 @@
 mod Remainders
 mod Spelling
-mod Tables

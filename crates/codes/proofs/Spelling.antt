@@ -1,24 +1,22 @@
 -- The number that characters write is the number of their spelling in digits. Assumes nothing.
-use Rattle.std.proofs.Common.{◌≡◌, ℕ, ◌+◌, ◌-◌, ◌*◌, ◌/◌, ◌%◌, ◌≤◌, Bool, true, false, cond, ◌&&◌, ◌||◌, leb, List, [], ◌∷◌, fold, refl, ap, ◌∙◌, arith}
+use Rattle.std.proofs.Common.{◌≡◌, ℕ, ◌+◌, ◌-◌, ◌*◌, ◌/◌, ◌%◌, ◌≤◌, Bool, true, false, cond, ◌&&◌, ◌||◌, leb, List, [], ◌∷◌, refl, ap, ◌∙◌, arith}
 use Rattle.std.proofs.lemmas.Bool.{and_parts, and_from, le-leb}
 use Rattle.std.proofs.lemmas.Bool.Decides.{nat_tests}
+use Rattle.text.specs.Digits.{number_after}
 use Rattle.text.specs.Chars.{belongs, every, digit, capital}
 use Rattle.text.specs.declared.class.Class.TheVariants.{Digit, Alphanumeric}
 use Rattle.codes.specs.Accounts.{written_after, spelled, SpellingLaw}
-
-abbrev read : ℕ → List ℕ → ℕ
-read n ds = fold (λ n d. n * 10 + (d - 48)) n ds
 
 -- one letter, whose value has two digits
 letter : (n c : ℕ) → n * 100 + (c - 55) ≡ (n * 10 + ((48 + (c - 55) / 10) - 48)) * 10 + ((48 + (c - 55) % 10) - 48)
 letter n c = omega arith
 
-same_by : (n c : ℕ) (cs : List ℕ) (d : Bool) → ((m : ℕ) → written_after m cs ≡ read m (spelled cs))
-    → written_after (n * cond d 10 100 + cond d (c - 48) (c - 55)) cs ≡ read n (cond d (c ∷ spelled cs) ((48 + (c - 55) / 10) ∷ (48 + (c - 55) % 10) ∷ spelled cs))
+same_by : (n c : ℕ) (cs : List ℕ) (d : Bool) → ((m : ℕ) → written_after m cs ≡ number_after m (spelled cs))
+    → written_after (n * cond d 10 100 + cond d (c - 48) (c - 55)) cs ≡ number_after n (cond d (c ∷ spelled cs) ((48 + (c - 55) / 10) ∷ (48 + (c - 55) % 10) ∷ spelled cs))
 same_by n c cs true ih = ih (n * 10 + (c - 48))
-same_by n c cs false ih = ih (n * 100 + (c - 55)) ∙ ap (λ m. read m (spelled cs)) (letter n c)
+same_by n c cs false ih = ih (n * 100 + (c - 55)) ∙ ap (λ m. number_after m (spelled cs)) (letter n c)
 
-same : (n : ℕ) (cs : List ℕ) → written_after n cs ≡ read n (spelled cs)
+same : (n : ℕ) (cs : List ℕ) → written_after n cs ≡ number_after n (spelled cs)
 same n [] = refl
 same n (c ∷ cs) = same_by n c cs (digit c) (λ m. same m cs)
 

@@ -2,6 +2,7 @@
 use Rattle.std.specs.Prelude.{◌≡◌, ℕ, ◌+◌, ◌-◌, ◌*◌, ◌/◌, ◌%◌, Bool, true, cond, ◌&&◌, List, [], ◌∷◌, ◌++◌, length, take, drop, codes, fold, ◌==◌}
 use Rattle.std.specs.Str.{bytes_eq}
 use Rattle.text.specs.Chars.{belongs, digit, every}
+use Rattle.text.specs.Digits.{number_after}
 use Rattle.text.specs.declared.class.Class.TheVariants.{Digit, Capital, Alphanumeric}
 
 -- a digit is itself, and A to Z are 10 to 35
@@ -44,4 +45,4 @@ spelled (c ∷ cs) = cond (digit c) (c ∷ spelled cs) ((48 + (c - 55) / 10) ∷
 -- the spelling of digits and capital letters is digits, and the number is what they write
 abbrev pub SpellingLaw : Type 0
 SpellingLaw = (n : ℕ) (cs : List ℕ) → every (belongs Alphanumeric) cs ≡ true
-    → (every (belongs Digit) (spelled cs) ≡ true) × (written_after n cs ≡ fold (λ n d. n * 10 + (d - 48)) n (spelled cs))
+    → (every (belongs Digit) (spelled cs) ≡ true) × (written_after n cs ≡ number_after n (spelled cs))

@@ -1,6 +1,7 @@
 -- The codes of instructions, with more text after some.
 use Rattle.std.specs.Prelude.{ℕ, Bool, true, false, ◌&&◌, ◌||◌, List, [], ◌∷◌, length, take, drop, codes, ◌==◌, nat_le, slice_index}
 use Rattle.std.specs.Str.{bytes_eq}
+use Rattle.std.specs.List.{list_any}
 use Rattle.text.specs.Chars.{belongs, every}
 use Rattle.text.specs.declared.class.Class.TheVariants.{Permitted}
 use Rattle.codes.specs.declared.entry.Entry.{Entry}
@@ -34,13 +35,9 @@ goes_on s = slice_index s 4 == 47 && (nat_le 1 (length (drop 5 s)) && (nat_le (l
 abbrev pub allows : List ℕ → Entry → Bool
 allows s e = bytes_eq (take 4 s) e.code && (length s == 4 || (e.more && goes_on s))
 
-abbrev pub any_allows : List ℕ → List Entry → Bool
-any_allows s [] = false
-any_allows s (e ∷ es) = allows s e || any_allows s es
-
 -- an instruction is what some entry of the table allows
 abbrev pub instruction_ok : List ℕ → Bool
-instruction_ok s = any_allows s table
+instruction_ok s = list_any (allows s) table
 
 -- an instruction to hold the money for the payee, with or without more text
 abbrev pub holds : List ℕ → Bool

@@ -3,7 +3,7 @@ ghost use Rattle.std.specs.Prelude.{◌≡◌, ◌%◌};
 ghost use Rattle.codes.specs.Accounts.{char_value, char_scale, written_after, divisor, bank_of, account_formed, account_number, account_ok, SpellingLaw};
 
 use text::class::Class;
-use text::slices::{front, skip};
+use text::slices::{begins, front, skip};
 
 // Where the bank and the rest begin, how long the bank's part is and how long a number is.
 const BANK: usize = 4;
@@ -27,10 +27,8 @@ fn char_value(b: u8) -> u32
 {
     if Class::Digit.has(b) {
         (b - b'0') as u32
-    } else if b >= LETTERS {
-        (b - LETTERS) as u32
     } else {
-        0
+        b.saturating_sub(LETTERS) as u32
     }
 }
 
@@ -62,7 +60,7 @@ fn is_formed(s: &[u8]) -> bool
     ensures { result ≡ account_formed s.now }
 {
     s.len() == LENGTH
-        && front(s, 2) == b"LV".as_slice()
+        && begins(s, b"LV")
         && Class::Digit.has_all(front(skip(s, 2), 2))
         && Class::Capital.has_all(bank_of(s))
         && Class::Alphanumeric.has_all(skip(s, REST))

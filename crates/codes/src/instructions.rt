@@ -1,11 +1,10 @@
 // Instructions: a code, and a text after some.
-ghost use Rattle.std.specs.Prelude.{◌≡◌, take};
-ghost use Rattle.std.specs.Str.{bytes_eq};
-ghost use Rattle.codes.specs.Instructions.{goes_on, allows, any_allows, instruction_ok, holds};
+ghost use Rattle.std.specs.Prelude.{◌≡◌};
+ghost use Rattle.codes.specs.Instructions.{goes_on, allows, instruction_ok, holds};
 
 use crate::entry::Entry;
 use text::class::Class;
-use text::slices::{byte, front, skip};
+use text::slices::{begins, byte, skip};
 
 // How long a code is, and the text after it and its slash may be.
 const CODE: usize = 4;
@@ -15,51 +14,51 @@ const LONGEST_TEXT: usize = 30;
 // Each code, with whether more text may follow it.
 const TABLE: [Entry; 12] = [
     Entry {
-        code: [b'C', b'H', b'Q', b'B'],
+        code: *b"CHQB",
         more: false,
     },
     Entry {
-        code: [b'C', b'O', b'R', b'T'],
+        code: *b"CORT",
         more: false,
     },
     Entry {
-        code: [b'H', b'O', b'L', b'D'],
+        code: *b"HOLD",
         more: true,
     },
     Entry {
-        code: [b'I', b'N', b'T', b'C'],
+        code: *b"INTC",
         more: false,
     },
     Entry {
-        code: [b'P', b'H', b'O', b'N'],
+        code: *b"PHON",
         more: true,
     },
     Entry {
-        code: [b'P', b'H', b'O', b'B'],
+        code: *b"PHOB",
         more: true,
     },
     Entry {
-        code: [b'P', b'H', b'O', b'I'],
+        code: *b"PHOI",
         more: true,
     },
     Entry {
-        code: [b'R', b'E', b'P', b'A'],
+        code: *b"REPA",
         more: true,
     },
     Entry {
-        code: [b'S', b'D', b'V', b'A'],
+        code: *b"SDVA",
         more: false,
     },
     Entry {
-        code: [b'T', b'E', b'L', b'E'],
+        code: *b"TELE",
         more: true,
     },
     Entry {
-        code: [b'T', b'E', b'L', b'B'],
+        code: *b"TELB",
         more: true,
     },
     Entry {
-        code: [b'T', b'E', b'L', b'I'],
+        code: *b"TELI",
         more: true,
     },
 ];
@@ -70,44 +69,30 @@ fn goes_on(s: &[u8]) -> bool
 {
     let text = skip(s, CODE + 1);
     byte(s, CODE) == b'/'
-        && text.len() >= 1
+        && !text.is_empty()
         && text.len() <= LONGEST_TEXT
         && Class::Permitted.has_all(text)
 }
 
-fn is_code(s: &[u8], code: [u8; CODE]) -> bool
-    ensures { result ≡ bytes_eq (take 4 s.now) code }
-{
-    front(s, CODE) == code.as_slice()
-}
-
-fn entry_allows(e: Entry, s: &[u8]) -> bool
-    ensures { result ≡ allows s.now e }
-{
-    is_code(s, e.code) && (s.len() == CODE || (e.more && goes_on(s)))
-}
-
-fn any_allows(entries: &[Entry], s: &[u8]) -> bool
-    ensures { result ≡ any_allows s.now entries.now }
-{
-    for e in entries {
-        if entry_allows(*e, s) {
-            return true;
-        }
+impl Entry {
+    // Whether the bytes are the entry's code alone, or go on where they may.
+    fn allows(&self, s: &[u8]) -> bool
+        ensures { result ≡ allows s.now self.now }
+    {
+        begins(s, &self.code) && (s.len() == CODE || self.more && goes_on(s))
     }
-    false
 }
 
 // Whether the bytes are an instruction of the table.
 pub fn is_instruction(s: &[u8]) -> bool
     ensures { result ≡ instruction_ok s.now }
 {
-    any_allows(&TABLE, s)
+    TABLE.iter().any(|e| e.allows(s))
 }
 
 // Whether they are an instruction to hold the money for the payee, with or without more text.
 pub fn is_hold(s: &[u8]) -> bool
     ensures { result ≡ holds s.now }
 {
-    is_instruction(s) && is_code(s, [b'H', b'O', b'L', b'D'])
+    is_instruction(s) && begins(s, b"HOLD")
 }

@@ -1,6 +1,6 @@
 -- How the first row is cut from a text. Assumes nothing.
-use Rattle.std.proofs.Common.{◌≡◌, ℕ, suc, ◌+◌, ◌-◌, ◌<◌, ◌≤◌, Bool, true, false, cond, ◌&&◌, ◌||◌, eqb, List, [], ◌∷◌, length, get_or, take, drop, sym, refl, ap, ◌∙◌, inl, inr, add-zero, arith}
-use Rattle.std.proofs.lemmas.List.{length-drop, drop_more, get_or-drop, at_drop_all}
+use Rattle.std.proofs.Common.{◌≡◌, ℕ, suc, ◌-◌, ◌<◌, ◌≤◌, Bool, true, false, cond, ◌&&◌, ◌||◌, eqb, List, [], ◌∷◌, length, get_or, take, drop, sym, refl, ap, ◌∙◌, inl, inr, arith}
+use Rattle.std.proofs.lemmas.List.{length-drop}
 use Rattle.std.proofs.lemmas.Bool.{cond-true, cond-false, and_parts, eqb-true, cases_Bool, false≢true}
 use Rattle.text.specs.Chars.{digit, capital}
 use Rattle.text.specs.Tags.{is_tag}
@@ -13,18 +13,6 @@ crlf_cons b (c ∷ t) h = cond-false (is_cr_lf b c) 0 (suc (crlf (c ∷ t))) h
 pub crlf_here : (b : ℕ) (t : List ℕ) → is_cr_lf b (get_or t 0 0) ≡ true → crlf (b ∷ t) ≡ 0
 crlf_here b [] h = absurd (false≢true (and_parts (eqb b 13) (eqb 0 10) h).1)
 crlf_here b (c ∷ t) h = cond-true (is_cr_lf b c) 0 (suc (crlf (c ∷ t))) h
-
-pub next_is : (s : List ℕ) (i : ℕ) → get_or (drop (i + 1) s) 0 0 ≡ get_or s (i + 1) 0
-next_is s i = get_or-drop (i + 1) s 0 0 ∙ ap (λ k. get_or s k 0) (add-zero (i + 1))
-
-pub crlf_no : (s : List ℕ) (i : ℕ) → i < length s → is_cr_lf (get_or s i 0) (get_or s (i + 1) 0) ≡ false → crlf (drop i s) ≡ suc (crlf (drop (i + 1) s))
-crlf_no s i h n = ap crlf (drop_more s i 0 h) ∙ crlf_cons (get_or s i 0) (drop (i + 1) s) (ap (is_cr_lf (get_or s i 0)) (next_is s i) ∙ n)
-
-pub crlf_yes : (s : List ℕ) (i : ℕ) → i < length s → is_cr_lf (get_or s i 0) (get_or s (i + 1) 0) ≡ true → crlf (drop i s) ≡ 0
-crlf_yes s i h n = ap crlf (drop_more s i 0 h) ∙ crlf_here (get_or s i 0) (drop (i + 1) s) (ap (is_cr_lf (get_or s i 0)) (next_is s i) ∙ n)
-
-pub crlf_end : (s : List ℕ) (i : ℕ) → length s ≤ i → crlf (drop i s) ≡ 0
-crlf_end s i h = at_drop_all crlf s i h
 
 pub crlf_le : (t : List ℕ) → crlf t ≤ length t
 crlf_le [] = omega arith

@@ -130,43 +130,40 @@ two_there [] h = absurd (true≢false (sym h))
 two_there (x ∷ []) h = absurd (true≢false (sym (and_parts (eqb x 13) false h).1))
 two_there (x ∷ y ∷ u) h = omega arith
 
--- what the code has in hand: the run's length, what follows it, and two bytes of that
-pub record Turn (t after : List ℕ) (k b c : ℕ) : Type 0 where
+-- what the code has in hand: the run's length, and what follows it
+pub record Turn (t after : List ℕ) (k : ℕ) : Type 0 where
   pub some : 0 < length t
   pub long : k ≡ run t
   pub tail : after ≡ drop k t
-  pub one : b ≡ get_or after 0 0
-  pub two : c ≡ get_or after 1 0
 
-ends_at : (t after : List ℕ) (k b c : ℕ) → Turn t after k b c → is_cr_lf (get_or (drop (run t) t) 0 0) (get_or (drop (run t) t) 1 0) ≡ is_cr_lf b c
-ends_at t after k b c n =
-    let a : after ≡ drop (run t) t = n.tail ∙ ap (λ m. drop m t) n.long in
-    let p : b ≡ get_or (drop (run t) t) 0 0 = n.one ∙ ap (λ u. get_or u 0 0) a in
-    let q : c ≡ get_or (drop (run t) t) 1 0 = n.two ∙ ap (λ u. get_or u 1 0) a in
-    sym (λ i. is_cr_lf (p i) (q i))
+abbrev ended : List ℕ → Bool
+ended u = is_cr_lf (get_or u 0 0) (get_or u 1 0)
+
+ends_at : (t after : List ℕ) (k : ℕ) → Turn t after k → ended (drop (run t) t) ≡ ended after
+ends_at t after k n = ap ended (sym (n.tail ∙ ap (λ m. drop m t) n.long))
 
 -- the turns of the loop
-pub good_more : (t row after rest : List ℕ) (k b c : ℕ) → Turn t after k b c → row ≡ take k t → rest ≡ drop 2 after → true ≡ is_cr_lf b c → true ≡ begun row → good rest ≡ good t
-good_more t row after rest k b c n f r ends ok =
-    let q = run_row t (ends_at t after k b c n ∙ sym ends) in
+pub good_more : (t row after rest : List ℕ) (k : ℕ) → Turn t after k → row ≡ take k t → rest ≡ drop 2 after → true ≡ ended after → true ≡ begun row → good rest ≡ good t
+good_more t row after rest k n f r ends ok =
+    let q = run_row t (ends_at t after k n ∙ sym ends) in
     let e : k ≡ crlf t = n.long ∙ sym q.0 in
     let x : row ≡ take (crlf t) t = f ∙ ap (λ m. take m t) e in
     let y : after ≡ drop (crlf t) t = n.tail ∙ ap (λ m. drop m t) e in
     let all : every (belongs Permitted) (take (crlf t) t) ≡ true = ap (λ m. every (belongs Permitted) (take m t)) q.0 ∙ q.1 in
     let whole : row_formed (take (crlf t) t) ≡ true = and_from (every (belongs Permitted) (take (crlf t) t)) (begun (take (crlf t) t)) all (ap begun (sym x) ∙ sym ok) in
-    let l : 2 ≤ length (drop (crlf t) t) = subst (λ u. 2 ≤ length u) y (two_there after ((λ i. is_cr_lf (sym n.one i) (sym n.two i)) ∙ sym ends)) in
+    let l : 2 ≤ length (drop (crlf t) t) = subst (λ u. 2 ≤ length u) y (two_there after (sym ends)) in
     ap good (r ∙ ap (drop 2) y) ∙ sym (good_on t n.some l whole)
 
-pub good_short : (t after : List ℕ) (k b c : ℕ) → Turn t after k b c → false ≡ is_cr_lf b c → good t ≡ false
-good_short t after k b c n missing =
+pub good_short : (t after : List ℕ) (k : ℕ) → Turn t after k → false ≡ ended after → good t ≡ false
+good_short t after k n missing =
     elim (cases_Bool (good t)) [
       | inr e ↦ e
-      | inl g ↦ absurd (true≢false (sym (good_run t n.some g) ∙ ends_at t after k b c n ∙ sym missing))
+      | inl g ↦ absurd (true≢false (sym (good_run t n.some g) ∙ ends_at t after k n ∙ sym missing))
     ]
 
-pub good_not : (t row after : List ℕ) (k b c : ℕ) → Turn t after k b c → row ≡ take k t → true ≡ is_cr_lf b c → false ≡ begun row → good t ≡ false
-good_not t row after k b c n f ends bad =
-    let q = run_row t (ends_at t after k b c n ∙ sym ends) in
+pub good_not : (t row after : List ℕ) (k : ℕ) → Turn t after k → row ≡ take k t → true ≡ ended after → false ≡ begun row → good t ≡ false
+good_not t row after k n f ends bad =
+    let q = run_row t (ends_at t after k n ∙ sym ends) in
     let x : row ≡ take (crlf t) t = f ∙ ap (λ m. take m t) (n.long ∙ sym q.0) in
     good_bad t n.some (and_right (every (belongs Permitted) (take (crlf t) t)) (begun (take (crlf t) t)) (ap begun (sym x) ∙ sym bad))
 

@@ -1,5 +1,7 @@
 pub mod Cuts
+pub mod Given
 pub mod Joins
-pub mod Slashes
+pub mod Numbers
+pub mod Pairs
 pub mod Tests
 pub mod TagTexts

@@ -1,5 +1,6 @@
 -- Classes of characters. A test is a Bool, so that it computes.
-use Rattle.std.specs.Prelude.{ℕ, suc, ◌+◌, Bool, true, false, cond, ◌&&◌, ◌||◌, List, [], ◌∷◌, codes, ◌==◌, nat_le}
+use Rattle.std.specs.Prelude.{ℕ, suc, ◌+◌, Bool, false, cond, ◌&&◌, ◌||◌, List, [], ◌∷◌, codes, ◌==◌, nat_le}
+use Rattle.std.specs.List.{list_all}
 use Rattle.text.specs.declared.class.Class.{Class}
 use Rattle.text.specs.declared.class.Class.TheVariants.{Digit, Capital, Alphanumeric, Permitted}
 
@@ -29,8 +30,7 @@ belongs Permitted b = capital b || (digit b || mark b)
 
 -- the test passes at each
 abbrev pub every : (ℕ → Bool) → List ℕ → Bool
-every p [] = true
-every p (x ∷ xs) = p x && every p xs
+every p xs = list_all p xs
 
 -- where c first stands, or the length
 abbrev pub place : ℕ → List ℕ → ℕ

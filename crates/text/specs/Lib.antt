@@ -1,4 +1,5 @@
 pub mod Chars
+pub mod Digits
 pub mod Reference
 pub mod Rows
 pub mod Tags

@@ -1,6 +1,7 @@
 -- The rows of a text.
 use Rattle.std.specs.Prelude.{ℕ, suc, Bool, cond, ◌&&◌, List, [], ◌∷◌, ◌++◌, ◌==◌}
 use Rattle.std.specs.List.{flat_map}
+use Rattle.text.specs.declared.rows.Rows.{Rows}
 
 -- b and c are the two bytes that end a row
 abbrev pub is_cr_lf : ℕ → ℕ → Bool
@@ -26,3 +27,7 @@ rows_of (b ∷ c ∷ t) = cond (is_cr_lf b c) ([] ∷ rows_of t) (on_first b (ro
 -- the rows written one after another, each ended by CrLf
 abbrev pub put : List (List ℕ) → List ℕ
 put rs = flat_map (λ r. r ++ 13 ∷ 10 ∷ []) rs
+
+-- the rows that are still to come
+abbrev pub rows_left : Rows → List (List ℕ)
+rows_left s = rows_of s.rest.now

@@ -1,9 +1,12 @@
 -- A text: its rows, and how each is formed.
-use Rattle.std.specs.Prelude.{◌≡◌, ℕ, Bool, true, not, ◌&&◌, ◌||◌, List, [], ◌∷◌, length, Decides, ◌==◌, nat_lt, slice_index, slice_index_or}
+use Rattle.std.specs.Prelude.{◌≡◌, ℕ, Bool, true, not, ◌&&◌, ◌||◌, List, [], ◌∷◌, length, drop, Option, MatchOption, ◌<◌, Decides, ◌==◌, nat_lt, slice_index, slice_index_or}
 use Rattle.std.specs.Str.{bytes_eq}
 use Rattle.text.specs.Chars.{belongs, every}
 use Rattle.text.specs.declared.class.Class.TheVariants.{Permitted}
-use Rattle.text.specs.Rows.{rows_of, put}
+use Rattle.text.specs.Rows.{crlf, rows_of, rows_left, put}
+use Rattle.text.specs.declared.rows.Rows.{Rows}
+use Rattle.std.specs.Iterator.{YieldsFirstBy}
+use Rattle.std.specs.Borrow.{Bor}
 use Rattle.text.specs.Tags.{is_tag}
 
 -- at least one byte, the first not -, and a tag if the first is :
@@ -36,3 +39,10 @@ IsText t rs = (t ≡ put rs) × (rows_formed rs ≡ true) × (opens rs ≡ true)
 -- a text is formed exactly if it is well-formed rows written one after another, and it is so in one way only
 abbrev pub TextLaw : Type 0
 TextLaw = (t : List ℕ) → Decides (formed t) ((rs : List (List ℕ)) × IsText t rs) × ((rs : List (List ℕ)) → IsText t rs → rows_of t ≡ rs)
+
+-- one call of `next`: it gives the first of the rows that are left, and leaves what follows its CrLf; where all rows are formed, those left are
+pub record GivesRow (s : Rows) (r : Option (Bor (List ℕ))) (t : Rows) : Type 0 where
+  pub rows : YieldsFirstBy (λ row. row.now) rows_left s r t
+  pub rest : t.rest.now ≡ drop 2 (drop (crlf s.rest.now) s.rest.now)
+  pub formed : good s.rest.now ≡ true → good t.rest.now ≡ true
+  pub shorter : MatchOption r (t.rest.now ≡ s.rest.now) (λ x. length t.rest.now < length s.rest.now)

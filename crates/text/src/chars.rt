@@ -20,36 +20,27 @@ impl Class {
     pub fn has_all(self, s: &[u8]) -> bool
         ensures { result ≡ every (belongs self) s.now }
     {
-        for b in s {
-            if !self.has(*b) {
-                return false;
-            }
-        }
-        true
+        s.iter().all(|b| self.has(*b))
     }
 
     // How many bytes of the class stand before the first that is not of it.
     pub fn run(self, s: &[u8]) -> usize
         ensures { result ≡ leading (belongs self) s.now }
     {
-        let mut i = 0;
-        while i < s.len() && self.has(s[i]) {
-            i += 1;
-        }
-        i
+        s.iter().take_while(|b| self.has(**b)).count()
     }
 }
 
 fn is_digit(b: u8) -> bool
     ensures { result ≡ digit b }
 {
-    b >= b'0' && b <= b'9'
+    b.is_ascii_digit()
 }
 
 fn is_capital(b: u8) -> bool
     ensures { result ≡ capital b }
 {
-    b >= b'A' && b <= b'Z'
+    b.is_ascii_uppercase()
 }
 
 fn is_mark(b: u8) -> bool
@@ -61,13 +52,9 @@ fn is_mark(b: u8) -> bool
     )
 }
 
-// Where the byte first stands, or the length.
+// Where the byte first stands, or the length, so that a caller may cut there.
 pub fn find(s: &[u8], sought: u8) -> usize
     ensures { result ≡ place sought s.now }
 {
-    let mut i = 0;
-    while i < s.len() && s[i] != sought {
-        i += 1;
-    }
-    i
+    s.iter().position(|b| *b == sought).unwrap_or(s.len())
 }

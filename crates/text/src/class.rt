@@ -1,5 +1,5 @@
 // The classes of characters that the formats speak of.
-#[derive(Clone, Copy)]
+#[derive(Clone, Copy, PartialEq, Eq, Debug)]
 pub enum Class {
     // 0 to 9
     Digit,

@@ -11,12 +11,9 @@ use crate::tags::is_tag;
 fn is_begun(row: &[u8]) -> bool
     ensures { result ≡ begun row.now }
 {
-    if row.is_empty() {
-        return false;
-    }
-    match byte(row, 0) {
-        b'-' => false,
-        b':' => is_tag(row),
+    match row {
+        [] | [b'-', ..] => false,
+        [b':', ..] => is_tag(row),
         _ => true,
     }
 }
@@ -29,11 +26,12 @@ pub fn is_formed(text: &[u8]) -> bool
     if byte(text, 0) != b':' {
         return false;
     }
+    // one walk: `Rows` would seek the row's end first, and its characters be looked at again
     let mut rest = text;
     while !rest.is_empty() {
         let k = Class::Permitted.run(rest);
         let after = skip(rest, k);
-        if !is_crlf(byte(after, 0), byte(after, 1)) {
+        if !is_crlf(after) {
             return false;
         }
         if !is_begun(front(rest, k)) {

@@ -5,11 +5,13 @@
 
 pub mod chars;
 pub mod class;
+pub mod digits;
 pub mod form;
 pub mod reference;
 pub mod rows;
 pub mod slices;
 pub mod tag;
 pub mod tags;
+pub mod tail;
 #[cfg(test)]
 mod trials;

@@ -1,9 +1,8 @@
 // The rows of a text, one by one.
-ghost use Rattle.std.specs.Prelude.{◌≡◌, ◌<◌, true, [], ◌∷◌, length, drop, Some, None};
-ghost use Rattle.text.specs.Rows.{is_cr_lf, crlf, rows_of};
-ghost use Rattle.text.specs.Texts.{good};
+ghost use Rattle.std.specs.Prelude.{◌≡◌, slice_index};
+ghost use Rattle.text.specs.Rows.{is_cr_lf, crlf};
 
-use crate::slices::{byte, front, skip};
+use crate::slices::{front, skip};
 
 // The two bytes that end a row, and how many they are.
 const CR: u8 = 0x0D;
@@ -12,21 +11,18 @@ const LF: u8 = 0x0A;
 
 pub const CR_LF: usize = 2;
 
-pub(crate) fn is_crlf(b: u8, c: u8) -> bool
-    ensures { result ≡ is_cr_lf b c }
+// Whether a row ends here.
+pub(crate) fn is_crlf(s: &[u8]) -> bool
+    ensures { result ≡ is_cr_lf (slice_index s.now 0) (slice_index s.now 1) }
 {
-    b == CR && c == LF
+    matches!(s, [CR, LF, ..])
 }
 
-// Where the first CrLf stands, or the length.
+// Where the first CrLf stands, or the length, so that a caller may cut there.
 pub fn find_crlf(s: &[u8]) -> usize
     ensures { result ≡ crlf s.now }
 {
-    let mut i = 0;
-    while i < s.len() && !is_crlf(s[i], byte(s, i + 1)) {
-        i += 1;
-    }
-    i
+    s.windows(2).position(is_crlf).unwrap_or(s.len())
 }
 
 // The rows that are still to come.
@@ -41,14 +37,21 @@ impl<'a> Rows<'a> {
     {
         Rows { rest: text }
     }
+}
+
+impl<'a> Iterator for Rows<'a> {
+    ghost use Rattle.std.specs.Prelude.{length};
+    ghost use Rattle.std.specs.Iterator.{at_most};
+    ghost use Rattle.text.specs.Texts.{GivesRow};
+
+    type Item = &'a [u8];
+
+    ghost next_gives = { GivesRow };
+
+    ghost remaining = { λ s. at_most (length s.rest.now) };
 
     // The next row, without its CrLf. Where all rows are formed, those still to come are.
-    pub fn next(&mut self) -> Option<&'a [u8]>
-        ensures rows { rows_of self.old.rest.now ≡ elim result [ None ↦ [] | Some x ↦ x.now ∷ rows_of self.new.rest.now ] }
-        ensures rest { self.new.rest.now ≡ drop 2 (drop (crlf self.old.rest.now) self.old.rest.now) }
-        ensures formed { good self.old.rest.now ≡ true → good self.new.rest.now ≡ true }
-        ensures shorter { elim result [ None ↦ self.new.rest.now ≡ self.old.rest.now | Some x ↦ length self.new.rest.now < length self.old.rest.now ] }
-    {
+    fn next(&mut self) -> Option<&'a [u8]> {
         let rest = self.rest;
         if rest.is_empty() {
             return None;

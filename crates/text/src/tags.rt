@@ -3,17 +3,12 @@ ghost use Rattle.std.specs.Prelude.{◌≡◌};
 ghost use Rattle.text.specs.Tags.{is_tag, tag_of, tag_size, TagLaw};
 
 use crate::class::Class;
-use crate::slices::byte;
 use crate::tag::Tag;
 
 pub fn is_tag(row: &[u8]) -> bool
     ensures { result ≡ is_tag row.now }
 {
-    if byte(row, 0) != b':' || !Class::Digit.has(byte(row, 1)) || !Class::Digit.has(byte(row, 2)) {
-        return false;
-    }
-    let b = byte(row, 3);
-    b == b':' || Class::Capital.has(b) && byte(row, 4) == b':'
+    tag_of(row).is_some()
 }
 
 // The tag at the start of the row, or none. A tag that is read is the one that is written there.
@@ -22,13 +17,21 @@ pub fn tag_of(row: &[u8]) -> Option<Tag>
     ensures tag { result ≡ tag_of row.now }
     ensures law { TagLaw }
 {
-    if !is_tag(row) {
+    let (tens, ones, letter) = match *row {
+        [b':', tens, ones, b':', ..] => (tens, ones, None),
+        [b':', tens, ones, letter, b':', ..] if Class::Capital.has(letter) => (
+            tens,
+            ones,
+            Some(letter),
+        ),
+        _ => return None,
+    };
+    if !Class::Digit.has(tens) || !Class::Digit.has(ones) {
         return None;
     }
-    let letter = byte(row, 3);
     Some(Tag {
-        number: 10 * (byte(row, 1) - b'0') + (byte(row, 2) - b'0'),
-        letter: if letter == b':' { None } else { Some(letter) },
+        number: 10 * (tens - b'0') + (ones - b'0'),
+        letter,
     })
 }
 

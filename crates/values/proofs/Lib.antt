@@ -2,5 +2,5 @@ mod Zeros
 mod Numbers
 mod Reading
 mod Writing
+mod Tens
 mod Months
-mod Lists

@@ -13,7 +13,7 @@ all_few most (x ∷ xs) h (suc k) = all_few most xs (and_parts (leb x most) (eve
 lengths_few : (k : ℕ) → get_or month_lengths k 0 ≤ 31
 lengths_few k = all_few 31 month_lengths refl k
 
-pub days_more : (year k : ℕ) → days_of year (k + 1) ≡ days_of year k + days_in year (k + 1)
+days_more : (year k : ℕ) → days_of year (k + 1) ≡ days_of year k + days_in year (k + 1)
 days_more year k = rw add-one
 
 pub days_few : (year month : ℕ) → days_in year month ≤ 32
@@ -49,10 +49,14 @@ days_grow year (suc n) m h =
       | inr f ↦ omega (arith, days_grow year n m (omega arith))
     ]
 
+-- the days up to the end of a month are those up to the end of the one before, and its own
 month_days : (year month : ℕ) → 1 ≤ month → days_of year month ≡ days_of year (month - 1) + days_in year month
 month_days year month h =
     let e : month - 1 + 1 ≡ month = omega arith in
     ap (days_of year) (sym e) ∙ days_more year (month - 1) ∙ ap (λ m. days_of year (month - 1) + days_in year m) e
+
+pub month_added : (year month days own : ℕ) → 1 ≤ month → days ≡ days_of year (month - 1) → own ≡ days_in year month → days + own ≡ days_of year month
+month_added year month days own h e f = ap (λ d. d + own) e ∙ ap (λ d. days_of year (month - 1) + d) f ∙ sym (month_days year month h)
 
 -- a day comes no later than the end of its month
 within_month : (year month day : ℕ) → Valid year month day → day_of_year year month day ≤ days_of year month

@@ -5,7 +5,7 @@ use Rattle.std.proofs.lemmas.Bool.{cond-true, cond-false, and_parts, eqb-true, c
 use Rattle.std.proofs.lemmas.Bool.Decides.{nat_tests, eqb_tells}
 use Rattle.text.specs.Chars.{belongs, every, place}
 use Rattle.text.specs.declared.class.Class.TheVariants.{Digit}
-use Rattle.values.specs.Digits.{number}
+use Rattle.text.specs.Digits.{number}
 use Rattle.values.specs.Amounts.{comma, unit, part_cents, whole, part, amount_formed, cents, amount_of, IsAmount, ReadingLaw}
 
 not_comma : (b : ℕ) → belongs Digit b ≡ true → eqb b comma ≡ false

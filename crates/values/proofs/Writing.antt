@@ -1,24 +1,25 @@
 -- A written amount is neat and reads as what was written. Assumes nothing.
-use Rattle.std.proofs.Common.{◌≡◌, ℕ, zero, suc, ◌+◌, ◌-◌, ◌*◌, ◌/◌, ◌%◌, ◌^◌, ◌<◌, ◌≤◌, Bool, true, eqb, leb, ◌⊎◌, List, [], ◌∷◌, length, get_or, drop, fold, sym, refl, ap, ◌∙◌, inl, inr, pow-suc, one-add, arith}
+use Rattle.std.proofs.Common.{◌≡◌, ℕ, zero, suc, ◌+◌, ◌-◌, ◌*◌, ◌/◌, ◌%◌, ◌^◌, ◌<◌, ◌≤◌, Bool, true, eqb, leb, ◌⊎◌, List, [], ◌∷◌, ◌++◌, length, get_or, drop, sym, refl, ap, ◌∙◌, inl, inr, pow-suc, one-add, arith}
 use native.Mathlib.Nat.{div-div-eq-div-mul, div-eq_of_lt}
 use Rattle.std.proofs.lemmas.List.{length-append, length-drop, drop-append-le}
 use Rattle.std.proofs.lemmas.Bool.{and_from, and_parts, cond-true, cond-false, cases_Bool, eqb-true, eqb-false, le-leb}
 use Rattle.text.specs.Chars.{belongs, every}
 use Rattle.text.specs.declared.class.Class.TheVariants.{Digit}
-use Rattle.values.specs.Digits.{number, digits, needless, plain}
+use Rattle.text.specs.Digits.{number, number_after}
+use Rattle.values.specs.Digits.{digits, needless, plain}
 use Rattle.values.specs.Amounts.{limit, unit, comma, decimals, whole_digits, amount_text, IsAmount, NeatlyWritten, WritingLaw}
 use Rattle.values.proofs.Reading.{reading_law}
 
 -- the digits after what stands above them write the number
-read_after : (w n : ℕ) → fold (λ n c. n * 10 + (c - 48)) (n / 10 ^ w) (digits w n) ≡ n
+read_after : (w n : ℕ) → number_after (n / 10 ^ w) (digits w n) ≡ n
 read_after zero n = omega arith
 read_after (suc w) n =
     let q : n / 10 ^ suc w ≡ n / 10 ^ w / 10 = ap (λ p. n / p) (pow-suc 10 w) ∙ sym (div-div-eq-div-mul n (10 ^ w) 10) in
     let e : n / 10 ^ suc w * 10 + ((48 + n / 10 ^ w % 10) - 48) ≡ n / 10 ^ w = omega arith in
-    ap (λ m. fold (λ n c. n * 10 + (c - 48)) m (digits w n)) e ∙ read_after w n
+    ap (λ m. number_after m (digits w n)) e ∙ read_after w n
 
 number_digits : (w n : ℕ) → n < 10 ^ w → number (digits w n) ≡ n
-number_digits w n h = ap (λ m. fold (λ n c. n * 10 + (c - 48)) m (digits w n)) (sym (div-eq_of_lt h)) ∙ read_after w n
+number_digits w n h = ap (λ m. number_after m (digits w n)) (sym (div-eq_of_lt h)) ∙ read_after w n
 
 one_digital : (x : ℕ) → belongs Digit (48 + x % 10) ≡ true
 one_digital x = and_from (leb 48 (48 + x % 10)) (leb (48 + x % 10) 57) (le-leb _ _ (omega arith)) (le-leb _ _ (omega arith))
@@ -67,7 +68,7 @@ plain_lead (d ∷ e ∷ ds) h z =
       | inr f ↦ absurd (f.0 (ap (λ xs. get_or xs 0 0) (sym f.1) ∙ z))
     ]
 
-needless_within : (ds : List ℕ) → needless ds ≤ length ds
+pub needless_within : (ds : List ℕ) → needless ds ≤ length ds
 needless_within [] = omega arith
 needless_within (d ∷ []) = omega arith
 needless_within (d ∷ e ∷ ds) =
@@ -106,11 +107,8 @@ worth n h =
 pub writing_law : WritingLaw
 writing_law n h = (neat n, (reading_law (amount_text n) n).1 (worth n h))
 
--- the bytes from the first needed digit on, as they stand in one array
-pub laid_out : (n s : ℕ) (w p : List ℕ) → w ≡ digits whole_digits (n / unit) → p ≡ digits decimals (n % unit) → s ≡ needless w
-    → drop s (get_or w 0 0 ∷ get_or w 1 0 ∷ get_or w 2 0 ∷ get_or w 3 0 ∷ get_or w 4 0 ∷ get_or w 5 0 ∷ get_or w 6 0 ∷ get_or w 7 0 ∷ comma ∷ get_or p 0 0 ∷ get_or p 1 0 ∷ []) ≡ amount_text n
-laid_out n s w p ew ep es =
+-- the bytes from the first needed digit on
+pub laid_out : (n s : ℕ) → s ≡ needless (digits whole_digits (n / unit)) → drop s (digits whole_digits (n / unit) ++ comma ∷ digits decimals (n % unit)) ≡ amount_text n
+laid_out n s e =
     let ds = digits whole_digits (n / unit) in
-    let bytes : List ℕ → List ℕ → List ℕ = λ w p. get_or w 0 0 ∷ get_or w 1 0 ∷ get_or w 2 0 ∷ get_or w 3 0 ∷ get_or w 4 0 ∷ get_or w 5 0 ∷ get_or w 6 0 ∷ get_or w 7 0 ∷ comma ∷ get_or p 0 0 ∷ get_or p 1 0 ∷ [] in
-    let z : s ≡ needless ds = es ∙ ap needless ew in
-    (λ i. drop (z i) (bytes (ew i) (ep i))) ∙ drop-append-le (needless ds) ds (comma ∷ digits decimals (n % unit)) (needless_within ds)
+    ap (λ k. drop k (ds ++ comma ∷ digits decimals (n % unit))) e ∙ drop-append-le (needless ds) ds (comma ∷ digits decimals (n % unit)) (needless_within ds)

@@ -2,7 +2,8 @@
 use Rattle.std.specs.Prelude.{◌≡◌, ℕ, ◌+◌, ◌-◌, ◌*◌, ◌/◌, ◌%◌, ◌^◌, ◌<◌, ◌≤◌, Bool, true, cond, ◌&&◌, ◌||◌, List, ◌∷◌, ◌++◌, length, take, drop, Some, None, Option, ◌==◌, nat_le, nat_lt, slice_index_or}
 use Rattle.text.specs.Chars.{belongs, every, place}
 use Rattle.text.specs.declared.class.Class.TheVariants.{Digit}
-use Rattle.values.specs.Digits.{number, digits, plain}
+use Rattle.text.specs.Digits.{number}
+use Rattle.values.specs.Digits.{digits, plain}
 
 -- how long a written amount may be, the comma counted
 abbrev pub longest : ℕ

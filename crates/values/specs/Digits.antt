@@ -1,9 +1,5 @@
--- Numbers and the digits that write them; 48 is the byte of the digit 0.
-use Rattle.std.specs.Prelude.{ℕ, zero, suc, ◌+◌, ◌-◌, ◌*◌, ◌/◌, ◌%◌, ◌^◌, cond, List, [], ◌∷◌, drop, fold, ◌==◌}
-
--- the number that the digits write
-abbrev pub number : List ℕ → ℕ
-number ds = fold (λ n c. n * 10 + (c - 48)) 0 ds
+-- The digits that write numbers; 48 is the byte of the digit 0.
+use Rattle.std.specs.Prelude.{ℕ, zero, suc, ◌+◌, ◌/◌, ◌%◌, ◌^◌, cond, List, [], ◌∷◌, drop, ◌==◌}
 
 -- the last w digits of n, zeros in front of a small n
 abbrev pub digits : ℕ → ℕ → List ℕ

@@ -3,7 +3,7 @@ ghost use Rattle.std.specs.Prelude.{◌≡◌, true};
 ghost use Rattle.std.specs.Option.{option_map};
 ghost use Rattle.text.specs.Chars.{belongs, every};
 ghost use Rattle.text.specs.declared.class.Class.TheVariants.{Capital};
-ghost use Rattle.values.specs.Currencies.{currency_formed, currency_of};
+ghost use Rattle.values.specs.Currencies.{currency_of};
 
 use text::class::Class;
 
@@ -15,23 +15,16 @@ pub struct Currency {
     ghost capital: { every (belongs Capital) letters ≡ true },
 }
 
-fn is_currency(s: &[u8]) -> bool
-    ensures { result ≡ currency_formed s.now }
-{
-    s.len() == LETTERS && Class::Capital.has_all(s)
-}
-
 impl Currency {
     // The currency that the bytes name, if they are three capital letters.
     pub fn new(s: &[u8]) -> Option<Currency>
         ensures { option_map (λ c. c.letters) result ≡ currency_of s.now }
     {
-        if !is_currency(s) {
+        let letters: [u8; LETTERS] = s.try_into().ok()?;
+        if !Class::Capital.has_all(&letters) {
             return None;
         }
-        Some(Currency {
-            letters: [s[0], s[1], s[2]],
-        })
+        Some(Currency { letters })
     }
 
     pub fn letters(self) -> [u8; LETTERS]

@@ -1,12 +1,12 @@
 // Dates of the Gregorian calendar from 2000 to 2099.
 ghost use Rattle.std.specs.Prelude.{◌≡◌, ◌*◌, ◌≤◌, true};
 ghost use Rattle.std.specs.Option.{option_map};
-ghost use Rattle.values.specs.Digits.{digits as digits_of};
+ghost use Rattle.values.specs.Digits.{digits};
 ghost use Rattle.values.specs.Calendar.{months_in_year, common_days, leap, leap_day, days_in, valid_date, dated, days_of, day_of_year};
 ghost use Rattle.values.specs.Calendar.{NumberingLaw, SameDayLaw, SixDigitsLaw};
-ghost use Rattle.values.specs.Calendar.{yymmdd as six_digits_of};
+ghost use Rattle.values.specs.Calendar.{yymmdd};
 
-use crate::digits::{three_digits, two_digits};
+use crate::digits::digits;
 
 const FIRST_YEAR: u64 = 2000;
 
@@ -74,8 +74,8 @@ fn days_of(year: u64, months: u64) -> u64
     ensures few { result ≤ 32 * months }
 {
     let mut days = 0;
-    for before in 0..months {
-        days += days_in(year, before + 1);
+    for month in 1..=months {
+        days += days_in(year, month);
     }
     days
 }
@@ -104,18 +104,19 @@ impl Date {
 
     // The day of the year as three digits.
     pub fn day_digits(self) -> [u8; 3]
-        ensures { result ≡ digits_of 3 (day_of_year self.year self.month self.day) }
+        ensures { result ≡ digits 3 (day_of_year self.year self.month self.day) }
     {
-        three_digits(self.day_of_year() as u64)
+        digits(self.day_of_year() as u64)
     }
 
     // Two digits each of year, month and day.
     pub fn yymmdd(self) -> [u8; 6]
-        ensures { result ≡ six_digits_of self.year self.month self.day }
+        ensures { result ≡ yymmdd self.year self.month self.day }
     {
-        let y = two_digits(self.year as u64 % 100);
-        let m = two_digits(self.month as u64);
-        let d = two_digits(self.day as u64);
+        let y = digits::<2>(self.year as u64 % 100);
+        let m = digits::<2>(self.month as u64);
+        let d = digits::<2>(self.day as u64);
+        // written out, since the digits of one number of six would not show that each part has two
         [y[0], y[1], m[0], m[1], d[0], d[1]]
     }
 }

@@ -1,5 +1,5 @@
 // The public functions on the worked examples and at their edges.
-use crate::amounts::{Written, amount_in_cents, is_amount_spelled};
+use crate::amounts::{amount_in_cents, is_amount_spelled, written};
 use crate::currency::Currency;
 use crate::dates::Date;
 use std::test::Fail;
@@ -21,29 +21,21 @@ fn amounts_are_read(rt: HostRuntime) {
 
 #[test]
 fn amounts_are_written(rt: HostRuntime) -> Result<(), Fail> {
-    assert!(rt; Written::new(1).ok_or("a cent")?.as_slice() == b"0,01".as_slice());
-    assert!(rt;
-        Written::new(100_000_000).ok_or("a million")?.as_slice() == b"1000000,00".as_slice()
-    );
-    assert!(rt; Written::new(0).is_none());
-    assert!(rt; Written::new(1_000_000_001).is_none());
+    assert!(rt; written(1).ok_or("a cent")?.as_slice() == b"0,01".as_slice());
+    assert!(rt; written(100_000_000).ok_or("a million")?.as_slice() == b"1000000,00".as_slice());
+    assert!(rt; written(0).is_none());
+    assert!(rt; written(1_000_000_001).is_none());
     Ok(())
 }
 
 // The day's number in its year, or 0 where there is no such date.
 fn number(year: u64, month: u64, day: u64) -> u16 {
-    match Date::new(year, month, day) {
-        Some(date) => date.day_of_year(),
-        None => 0,
-    }
+    Date::new(year, month, day).map_or(0, |date| date.day_of_year())
 }
 
 // The date's nine digits, of the day of the year and of year, month and day.
 fn digits(year: u64, month: u64, day: u64) -> ([u8; 3], [u8; 6]) {
-    match Date::new(year, month, day) {
-        Some(date) => (date.day_digits(), date.yymmdd()),
-        None => ([0; 3], [0; 6]),
-    }
+    Date::new(year, month, day).map_or(([0; 3], [0; 6]), |date| (date.day_digits(), date.yymmdd()))
 }
 
 #[test]
@@ -58,10 +50,7 @@ fn dates_are_numbered(rt: HostRuntime) {
 }
 
 fn letters(s: &[u8]) -> [u8; 3] {
-    match Currency::new(s) {
-        Some(currency) => currency.letters(),
-        None => [0; 3],
-    }
+    Currency::new(s).map_or([0; 3], |currency| currency.letters())
 }
 
 #[test]

@@ -1,8 +1,7 @@
-use Rattle.std.proofs.Common.{◌≡◌, ◌<◌, [], length, sym, ap, ◌∙◌, rules}
+use Rattle.std.proofs.Common.{◌≡◌, [], sym, ap, ◌∙◌, rules}
 use Rattle.std.proofs.lemmas.Bool.{and_left, and_right, ne_eqb, eq-eqb, and_from}
 use Rattle.std.proofs.lemmas.List.{nil_from_length}
 use Rattle.text.specs.Texts.{good}
-use Rattle.text.proofs.Cuts.{row_shorter}
 use Rattle.text.proofs.Joins.{Turn, good_more, good_short, good_not, opens_is, text_law}
 use Rattle.text.proofs.form.is_formed.Goals as goal
 
@@ -14,41 +13,30 @@ returns-then-byte-ne58 c = record {
 
 pub returns-then-not-is_crlf : goal.returns-then-not-is_crlf
 returns-then-not-is_crlf c =
-    let n : Turn c.loop-rest.rest.now c.skip-after.result.now c.run-k.result c.byte-in-loop-rest.result c.byte-in-loop-rest-2.result = record {
+    let n : Turn c.loop-rest.rest.now c.skip-after.result.now c.run-k.result = record {
       some = search rules;
       long = c.run-k.ensures;
       tail = c.skip-after.ensures;
-      one = c.byte-in-loop-rest.ensures;
-      two = c.byte-in-loop-rest-2.ensures;
     } in
-    record { test = sym (and_left _ _ (sym c.loop-rest.invariant ∙ good_short _ _ _ _ _ n c.if-not-is_crlf.ensures)); law = text_law }
+    record { test = sym (and_left _ _ (sym c.loop-rest.invariant ∙ good_short _ _ _ n c.if-not-is_crlf.ensures)); law = text_law }
 
 pub returns-then-not-is_begun : goal.returns-then-not-is_begun
 returns-then-not-is_begun c =
-    let n : Turn c.loop-rest.rest.now c.skip-after.result.now c.run-k.result c.byte-in-loop-rest.result c.byte-in-loop-rest-2.result = record {
+    let n : Turn c.loop-rest.rest.now c.skip-after.result.now c.run-k.result = record {
       some = search rules;
       long = c.run-k.ensures;
       tail = c.skip-after.ensures;
-      one = c.byte-in-loop-rest.ensures;
-      two = c.byte-in-loop-rest-2.ensures;
     } in
-    record { test = sym (and_left _ _ (sym c.loop-rest.invariant ∙ good_not _ _ _ _ _ _ n c.front.ensures c.if-not-is_crlf.ensures c.if-not-is_begun.ensures)); law = text_law }
-
-pub loop-rest-smaller : goal.loop-rest-smaller
-loop-rest-smaller c =
-    let some : 0 < length c.loop-rest.rest.now = search rules in
-    row_shorter _ _ _ _ some c.skip-after.ensures c.skip-rest.ensures
+    record { test = sym (and_left _ _ (sym c.loop-rest.invariant ∙ good_not _ _ _ _ n c.front.ensures c.if-not-is_crlf.ensures c.if-not-is_begun.ensures)); law = text_law }
 
 pub loop-rest-preserved : goal.loop-rest-preserved
 loop-rest-preserved c =
-    let n : Turn c.loop-rest.rest.now c.skip-after.result.now c.run-k.result c.byte-in-loop-rest.result c.byte-in-loop-rest-2.result = record {
+    let n : Turn c.loop-rest.rest.now c.skip-after.result.now c.run-k.result = record {
       some = search rules;
       long = c.run-k.ensures;
       tail = c.skip-after.ensures;
-      one = c.byte-in-loop-rest.ensures;
-      two = c.byte-in-loop-rest-2.ensures;
     } in
-    good_more _ _ _ _ _ _ _ n c.front.ensures c.skip-rest.ensures c.if-not-is_crlf.ensures c.if-not-is_begun.ensures ∙ c.loop-rest.invariant
+    good_more _ _ _ _ _ n c.front.ensures c.skip-rest.ensures c.if-not-is_crlf.ensures c.if-not-is_begun.ensures ∙ c.loop-rest.invariant
 
 pub returns : goal.returns
 returns c =

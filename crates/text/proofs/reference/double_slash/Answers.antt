@@ -1,12 +1,10 @@
-use Rattle.std.proofs.Common.{sym, ◌∙◌}
-use Rattle.text.proofs.Slashes.{doubled_step, doubled_end}
+use Rattle.std.proofs.Common.{get_or, ◌∙◌, rules, tests}
+use Rattle.std.proofs.lemmas.Iterator.Search.{any_from_yields_List}
+use Rattle.text.specs.Reference.{pair}
+use Rattle.text.proofs.Pairs.{pairs_list, doubled_pairs}
 use Rattle.text.proofs.reference.double_slash.Goals as goal
 
-pub loop-i-preserved : goal.loop-i-preserved
-loop-i-preserved c = sym (doubled_step _ _ _ _ c.loop-i-test.true c.byte.ensures c.if-is_pair.ensures) ∙ c.loop-i.invariant
-
-pub returns-then-is_pair : goal.returns-then-is_pair
-returns-then-is_pair c = sym (doubled_step _ _ _ _ c.loop-i-test.true c.byte.ensures c.if-is_pair.ensures) ∙ c.loop-i.invariant
-
 pub returns : goal.returns
-returns c = sym (doubled_end _ _ c.loop-i-test.false) ∙ c.loop-i.invariant
+returns c =
+    any_from_yields_List (λ w. pair (get_or w 0 0) (get_or w 1 0)) _ _ _ c.any.ensures.ran (pairs_list c.args.s.now c.windows.ensures.rest c.windows.ensures.size) (λ x b q k. search (rules, tests))
+    ∙ doubled_pairs c.args.s.now

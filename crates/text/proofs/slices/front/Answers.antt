@@ -1,6 +1,0 @@
-use Rattle.std.proofs.Common.{rules}
-use Rattle.std.proofs.lemmas.List.{take_all}
-use Rattle.text.proofs.slices.front.Goals as goal
-
-pub returns-else-n-s : goal.returns-else-n-s
-returns-else-n-s c = search (rules, take_all)
