@@ -1,4 +1,4 @@
 pub mod Optional
 pub mod Listed
-pub mod Spans
+pub mod Searches
 pub mod Completes

@@ -2,6 +2,8 @@
 --     before     the strict order of the keys
 --     ks         the items' keys, by number; an item may have none
 --     ns         the numbers that the index holds
+use Rattle.std.specs.declared.cmp.Ordering.{Ordering}
+use Rattle.std.specs.Ordering.{is_lt}
 use Rattle.std.specs.Prelude.{◌≡◌, ℕ, ◌<◌, ◌≤◌, Bool, true, false, ◌||◌, List, [], ◌∷◌, length, is_some, Some, None, Ok, Err, Option, Result, ◌==◌, ◌≢◌, slice_index, slice_index_or}
 
 -- the key of the item n: none where the item has none, and none past the last item
@@ -11,6 +13,10 @@ key_of ks n = slice_index_or ks n None
 -- the key of the item whose number stands at the place i
 abbrev pub key_at : {K : Type 0} → List (Option K) → List ℕ → ℕ → Option K
 key_at ks ns i = key_of ks (slice_index ns i)
+
+-- a key is before another where it compares as less
+abbrev pub less : {K : Type 0} → (K → K → Ordering) → K → K → Bool
+less cmp x y = is_lt (cmp x y)
 
 -- both keys are there, and the first is before the second
 abbrev pub precedes : {K : Type 0} → (K → K → Bool) → Option K → Option K → Bool

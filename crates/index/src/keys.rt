@@ -1,21 +1,16 @@
 // What the index asks of keys, and of the items that have them.
-ghost use Rattle.std.specs.Prelude.{◌≡◌, Bool, true, false, ◌⊎◌, Option as Maybe};
-ghost use Rattle.std.specs.Ordering.{MatchOrdering};
+ghost use Rattle.std.specs.Prelude.{◌≡◌, Bool, Option as Maybe};
+ghost use Rattle.std.specs.declared.cmp.Ordering.TheVariants.{Equal};
+ghost use Rattle.index.specs.Order.{less};
 
-use std::cmp::Ordering;
-
-// A kind of key: a strict order that is total, and a comparison that answers by it.
-pub trait Key {
+// A kind of key: an order of the keys, in which those that compare as equal are one and the same.
+pub trait Key: Ord {
+    // which of two keys comes first
     ghost before: { Self → Self → Bool };
 
-    fn compare(&self, other: &Self) -> Ordering
-        ensures { MatchOrdering result (before self.now other.now ≡ true) (self.now ≡ other.now) (before other.now self.now ≡ true) };
+    ghost ordered: { (x y : Self) → less Self.cmp x y ≡ before x y };
 
-    ghost irreflexive: { (x : Self) → before x x ≡ false };
-
-    ghost transitive: { (x y z : Self) → before x y ≡ true → before y z ≡ true → before x z ≡ true };
-
-    ghost total: { (x y : Self) → (before x y ≡ true) ⊎ ((x ≡ y) ⊎ (before y x ≡ true)) };
+    ghost same: { (x y : Self) → Self.cmp x y ≡ Equal → x ≡ y };
 }
 
 // An item that may have a key of the kind K. One type of items may have keys of several kinds.

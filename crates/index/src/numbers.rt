@@ -1,28 +1,22 @@
 // The numbers in the order of their items' keys: a search by halves, and one number more.
-ghost use Rattle.std.specs.Prelude.{◌≡◌, ◌+◌, ◌≤◌, true, ◌&&◌, [], map, length, is_some, IfOk, if◌then◌else◌, Some as Just, nat_le, nat_lt};
-ghost use Rattle.std.specs.Ordering.{MatchOrdering};
+ghost use Rattle.std.specs.Prelude.{◌≡◌, ◌+◌, ◌≤◌, ◌&&◌, [], map, length, IfOk, if◌then◌else◌, nat_le, nat_lt};
 ghost use Rattle.std.specs.List.{insert};
-ghost use Rattle.index.specs.Order.{key_of, precedes, Indexed, Sought};
+ghost use Rattle.index.specs.Order.{key_of, less, Indexed, Sought};
 ghost use Rattle.index.specs.Contents.{entries, room as memory};
 
 use crate::keys::{Key, Keyed};
 use std::alloc::{AllocError, Global};
-use std::cmp::Ordering;
 
 #[derive(Drop)]
 pub struct Index {
     numbers: Vec<u16>,
 }
 
-// How the key of the item `number` stands to `key`.
-fn standing<K: Key + Copy, T: Keyed<K>>(items: &[T], number: u16, key: &K) -> Ordering
-    requires { is_some (key_of (map T.Keyed.called items.now) number) ≡ true }
-    ensures { MatchOrdering result (precedes K.Key.before (key_of (map T.Keyed.called items.now) number) (Just key.now) ≡ true) (key_of (map T.Keyed.called items.now) number ≡ Just key.now) (precedes K.Key.before (Just key.now) (key_of (map T.Keyed.called items.now) number) ≡ true) }
+// The key of the item `number`: none where the item has none, and none past the last item.
+fn item_key<K, T: Keyed<K>>(items: &[T], number: u16) -> Option<K>
+    ensures { result ≡ key_of (map T.Keyed.called items.now) number }
 {
-    match items[number as usize].key() {
-        Some(own) => own.compare(key),
-        None => unreachable(),
-    }
+    items.get(usize::from(number)).and_then(|item| item.key())
 }
 
 impl Index {
@@ -30,8 +24,9 @@ impl Index {
     pub fn open(heap: Global, room: usize) -> Result<Index, AllocError>
         ensures { IfOk result (λ x. (entries x ≡ []) × (room ≤ memory x)) }
     {
-        let numbers = Vec::with_capacity(heap, room)?;
-        Ok(Index { numbers })
+        Ok(Index {
+            numbers: Vec::with_capacity(heap, room)?,
+        })
     }
 
     // How many numbers it holds.
@@ -43,26 +38,16 @@ impl Index {
 
     // The number of the indexed item that has the key; or, where none has, the place at which its number would stand.
     pub fn find<K: Key + Copy, T: Keyed<K>>(&self, items: &[T], key: &K) -> Result<u16, usize>
-        requires { Indexed K.Key.before (map T.Keyed.called items.now) (entries self.now) }
-        ensures { Sought K.Key.before (map T.Keyed.called items.now) (entries self.now) key.now result }
+        requires { Indexed (less K.cmp) (map T.Keyed.called items.now) (entries self.now) }
+        ensures { Sought (less K.cmp) (map T.Keyed.called items.now) (entries self.now) key.now result }
     {
         let numbers = self.numbers.as_slice();
-        let mut low = 0;
-        let mut high = numbers.len();
-        while low < high {
-            let mid = low + (high - low) / 2;
-            let number = numbers[mid];
-            match standing(items, number, key) {
-                Ordering::Less => low = mid + 1,
-                Ordering::Equal => return Ok(number),
-                Ordering::Greater => high = mid,
-            }
-        }
-        Err(low)
+        let place = numbers.binary_search_by_key(&Some(*key), |number| item_key(items, *number))?;
+        Ok(numbers[place])
     }
 
     // Puts the number in at the place, and answers whether it did: the place is none past the end, and there is memory for one more.
-    // Nothing is allocated.
+    // Nothing is allocated. A yes or no: nobody asks which of the two was missing.
     pub fn insert_at(&mut self, place: usize, number: u16) -> bool
         ensures answer { result ≡ (nat_le place (length (entries self.old)) && nat_lt (length (entries self.old)) (memory self.old)) }
         ensures numbers { entries self.new ≡ (if result then insert (entries self.old) place number else entries self.old) }
@@ -70,9 +55,8 @@ impl Index {
         ensures room { memory self.new ≡ memory self.old }
     {
         let size = self.len();
-        if place > size || size == self.numbers.capacity() {
-            return false;
-        }
-        self.numbers.insert(place, number).is_ok()
+        place <= size
+            && size < self.numbers.capacity()
+            && self.numbers.insert(place, number).is_ok()
     }
 }

@@ -1,12 +1,13 @@
 -- What a text of the form of a BIC or a reference is: of its length, with no 0 among its bytes. Assumes nothing.
-use Rattle.std.proofs.Common.{◌≡◌, ℕ, zero, suc, ◌<◌, ◌≤◌, Bool, true, false, cond, List, [], ◌∷◌, length, take, drop, Some, None, sym, refl, subst, not-suc-le-zero, arith}
+use Rattle.std.proofs.Common.{◌≡◌, ℕ, zero, suc, ◌<◌, ◌≤◌, Bool, true, false, cond, List, [], ◌∷◌, length, take, drop, Some, None, sym, refl, ap, ◌∙◌, subst, not-suc-le-zero, arith}
+use Rattle.std.proofs.lemmas.Option.{cond_some, none-some}
 use Rattle.std.proofs.lemmas.Bool.{false≢true, and_parts, eqb-true, leb-true}
 use Rattle.std.proofs.lemmas.List.{drop-drop}
 use Rattle.text.specs.Chars.{belongs, every}
 use Rattle.text.specs.declared.class.Class.{Class}
 use Rattle.text.specs.declared.class.Class.TheVariants.{Digit, Capital, Alphanumeric, Permitted}
 use Rattle.codes.specs.Bics.{bic_formed}
-use Rattle.keys.specs.Texts.{reference_form, formed_only}
+use Rattle.keys.specs.Texts.{spelled, reference_form, formed_only}
 use Rattle.keys.proofs.Packs.{Plain}
 
 -- 0 is in no class of characters
@@ -42,18 +43,18 @@ reference_plain t h =
     let a = and_parts _ _ l.1 in
     (leb-true (length t) 16 a.0, every_plain Permitted t a.1)
 
--- what a choice tells by its answer: something only where the test passed, nothing only where it failed
-pub cond_some : {A : Type 0} (b : Bool) (x y : A) → Some x ≡ cond b (Some y) None → (b ≡ true) × (x ≡ y)
-cond_some true x y e = (refl, cc)
-cond_some false x y e = absurd (let z : ◌≡◌ {A = ℕ} 0 1 = cc in omega arith)
-
+-- what a choice tells that gave nothing: its test failed
 pub cond_none : {A : Type 0} (b : Bool) (y : A) → None ≡ cond b (Some y) None → b ≡ false
-cond_none true y e = absurd (let z : ◌≡◌ {A = ℕ} 0 1 = cc in omega arith)
+cond_none true y e = absurd (none-some y e)
 cond_none false y e = refl
 
--- so a text that was read is of the form, and is what was read; one that was not is not
+-- a text that was read is of the form, and is what was read; one that was not is not
 pub formed_some : (form : List ℕ → Bool) (t u : List ℕ) → Some u ≡ formed_only form t → (form t ≡ true) × (u ≡ t)
-formed_some form t u h = cond_some (form t) u t h
+formed_some form t u h = let of = cond_some (form t) t u (sym h) in (of.0, sym of.1)
 
 pub formed_none : (form : List ℕ → Bool) (t : List ℕ) → None ≡ formed_only form t → form t ≡ false
 formed_none form t h = cond_none (form t) t h
+
+-- and a text of the form is what is read of it
+pub formed_read : (form : List ℕ → Bool) (t : List ℕ) (n : ℕ) → spelled n ≡ t → form t ≡ true → Some (spelled n) ≡ formed_only form t
+formed_read form t n back formed = ap (λ u. Some u) back ∙ ap (λ b. cond b (Some t) None) (sym formed)

@@ -1,3 +1,4 @@
 pub mod Packs
+pub mod Spelled
 pub mod Same
 pub mod Forms

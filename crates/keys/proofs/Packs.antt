@@ -51,9 +51,6 @@ spelled_number t bytes plain =
     let all : take (length t) t ≡ t = take_all (length t) t (omega arith) in
     subst (λ u. spelled (number_from_digits 256 u) ≡ u) all (spelled_front t bytes plain (length t) (omega arith))
 
-pub number_under : (t : List ℕ) → Bytes t → number_from_digits 256 t < 256 ^ length t
-number_under t bytes = number_lt 256 t (All-from_get_or (λ d. d < 256) t 0 bytes)
-
 -- a text of the form has the number from which it is spelled again
 pub spelled_same : (t : List ℕ) (n : ℕ) → Bytes t → Plain t → n ≡ number_from_digits 256 t → spelled n ≡ t
 spelled_same t n bytes plain is = ap spelled is ∙ spelled_number t bytes plain

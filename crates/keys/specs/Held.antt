@@ -3,7 +3,7 @@ use Rattle.std.specs.Prelude.{ℕ, Bool, List, drop, ◌==◌}
 use Rattle.keys.specs.Texts.{spelled}
 use Rattle.keys.specs.declared.bic.Bic.{Bic}
 use Rattle.keys.specs.declared.reference.Reference.{Reference}
-use Rattle.keys.specs.declared.spelling.Spelling.{Spelling}
+use Rattle.text.specs.declared.tail.Tail.{Tail}
 
 abbrev pub bic_text : Bic → List ℕ
 bic_text b = spelled b.code
@@ -16,5 +16,5 @@ abbrev pub same_bic : Bic → Bic → Bool
 same_bic a b = a.code == b.code
 
 -- the characters of a spelling
-abbrev pub written : Spelling → List ℕ
+abbrev pub written : {N : ℕ} → Tail N → List ℕ
 written s = drop s.start s.bytes

@@ -1,12 +1,14 @@
 -- The orders of the keys. Assumes nothing.
-use Rattle.std.specs.Prelude.{Bool, ◌&&◌, ◌||◌, ◌==◌, nat_lt}
+use Rattle.std.specs.Prelude.{Bool}
+use Rattle.std.specs.Ordering.{nat_cmp, on, then_cmp}
+use Rattle.index.specs.Order.{less}
 use Rattle.keys.specs.declared.bic.Bic.{Bic}
-use Rattle.keys.specs.declared.reference.ReferenceKey.{ReferenceKey}
+use Rattle.keys.specs.declared.reference_key.ReferenceKey.{ReferenceKey}
 
 -- BICs: by the text's number
 abbrev pub lesser : Bic → Bic → Bool
-lesser x y = nat_lt x.code y.code
+lesser = less (on (λ b. b.code) nat_cmp)
 
 -- references: by the text's number, and then by the sender's place
 abbrev pub earlier : ReferenceKey → ReferenceKey → Bool
-earlier x y = nat_lt x.reference.code y.reference.code || (x.reference.code == y.reference.code && nat_lt x.sender y.sender)
+earlier = less (then_cmp (on (λ k. k.reference.code) nat_cmp) (on (λ k. k.sender) nat_cmp))

@@ -7,7 +7,7 @@ ghost use Rattle.keys.specs.Texts.{spelled};
 pub(crate) const BIC_WIDTH: usize = 8;
 
 // The code's eight characters, as one number. It is always of a BIC's form.
-#[derive(Clone, Copy)]
+#[derive(Clone, Copy, PartialEq, Eq, PartialOrd, Ord)]
 pub struct Bic {
     pub(crate) code: u64,
     ghost formed: { bic_formed (spelled code) ≡ true },

@@ -9,11 +9,13 @@ mod orders;
 mod packing;
 mod reading;
 mod reference;
+mod reference_key;
 mod spelling;
 mod writing;
 
 pub use bic::Bic;
-pub use reference::{Reference, ReferenceKey};
+pub use reference::Reference;
+pub use reference_key::ReferenceKey;
 pub use spelling::Spelling;
 
 #[cfg(test)]
@@ -23,9 +25,7 @@ mod tests {
 
     #[test]
     fn bics_are_read_and_written(rt: HostRuntime) -> Result<(), Fail> {
-        let Some(bic) = Bic::read(b"A1B2LV0X") else {
-            return Err(Fail::new("no BIC"));
-        };
+        let bic = Bic::read(b"A1B2LV0X").ok_or("no BIC")?;
         assert!(rt; bic.bytes() == *b"A1B2LV0X");
         assert!(rt; bic.is_written_as(b"A1B2LV0X") && !bic.is_written_as(b"A1B2LV0Y"));
         assert!(rt; Bic::read(b"A1B2L10X").is_none());
@@ -36,9 +36,7 @@ mod tests {
 
     #[test]
     fn references_are_read_and_written(rt: HostRuntime) -> Result<(), Fail> {
-        let Some(reference) = Reference::read(b"A-1/+ '?") else {
-            return Err(Fail::new("no reference"));
-        };
+        let reference = Reference::read(b"A-1/+ '?").ok_or("no reference")?;
         assert!(rt; reference.spelling().as_slice() == b"A-1/+ '?".as_slice());
         assert!(rt; Reference::read(b"0123456789ABCDEF").is_some());
         assert!(rt; Reference::read(b"0123456789ABCDEFG").is_none());

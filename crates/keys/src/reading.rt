@@ -14,9 +14,10 @@ use text::class::Class;
 fn is_reference(text: &[u8]) -> bool
     ensures { result ≡ reference_form text.now }
 {
-    text.len() >= 1 && text.len() <= REFERENCE_WIDTH && Class::Permitted.has_all(text)
+    (1..=REFERENCE_WIDTH).contains(&text.len()) && Class::Permitted.has_all(text)
 }
 
+// What is left of the two below is the form, the type and the width.
 impl Bic {
     // The BIC that the bytes write, or none where they are not of its form.
     pub fn read(text: &[u8]) -> Option<Bic>

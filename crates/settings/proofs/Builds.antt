@@ -1,32 +1,29 @@
 -- A directory of houses as it grows. Assumes nothing.
-use Rattle.std.proofs.Common.{◌≡◌, ℕ, zero, suc, ◌+◌, ◌<◌, ◌≤◌, true, false, List, [], ◌∷◌, ◌++◌, map, length, get_or, take, is_some, Some, vec_items, vec_len, vec_capacity, Vec, sym, ap, ◌∙◌, subst, not-suc-le-zero, arith}
+use Rattle.std.proofs.Common.{◌≡◌, ℕ, zero, suc, ◌+◌, ◌<◌, ◌≤◌, true, false, List, [], ◌∷◌, ◌++◌, map, length, get_or, take, is_some, Some, None, Option, vec_items, sym, refl, ap, ◌∙◌, subst, not-suc-le-zero, arith}
+use Rattle.std.specs.Option.{option_map, IsSome}
 use Rattle.std.specs.Str.{bytes_eq}
-use Rattle.std.specs.declared.alloc.Global.{Global}
 use Rattle.std.proofs.lemmas.Slice.Eq.{bytes_eq-Decides}
 use Rattle.std.proofs.lemmas.List.{get_or-map, length-map, map_push, map_more, length-take-le, get_or-take}
 use Rattle.std.proofs.lemmas.Simd.{map-map}
 use Rattle.std.proofs.lemmas.Bool.{and_parts, not-true, both_ways, or_parts}
-use Rattle.index.specs.declared.numbers.Index.{Index}
-use Rattle.index.specs.Contents.{entries, room}
-use Rattle.index.specs.Order.{key_of, Complete}
+use Rattle.index.specs.Order.{key_of}
 use Rattle.index.proofs.Optional.{item_below}
 use Rattle.keys.specs.declared.bic.Bic.{Bic}
 use Rattle.codes.specs.Bics.{bic_formed}
 use Rattle.keys.specs.Held.{bic_text}
-use Rattle.keys.specs.Orders.{lesser}
+use Rattle.keys.specs.Texts.{formed_only}
+use Rattle.keys.proofs.Forms.{formed_none}
+use Rattle.settings.specs.declared.directory.Directory.{Directory}
 use Rattle.settings.specs.declared.house.House.{House}
+use Rattle.settings.specs.Room.{room}
 use Rattle.settings.specs.declared.opening.HouseEntry.{HouseEntry}
 use Rattle.settings.specs.Rules.{entry_text, among, bic_kept, bics_kept}
 use Rattle.settings.specs.Places.{bic_of, held_house, given_house}
 
--- the first i entries have become houses, and there is room for all
-pub record Built (es : List HouseEntry) (i : ℕ) (v : Vec House Global) (x : Index) : Type 0 where
-  pub count : vec_len v ≡ i
-  pub size : length (entries x) ≡ i
-  pub roomy : length es ≤ vec_capacity v
-  pub space : length es ≤ room x
-  pub same : map held_house (vec_items v) ≡ map given_house (take i es)
-  pub complete : Complete lesser (map bic_of (vec_items v)) (entries x)
+-- the first i entries have become houses, and there is memory for all
+pub record Built (es : List HouseEntry) (i : ℕ) (d : Directory) : Type 0 where
+  pub roomy : length es ≤ room d
+  pub same : map held_house (vec_items d.houses) ≡ map given_house (take i es)
 
 -- entries whose BICs keep the rules: each is formed, and none is a later one's
 pub formed_at : (es : List HouseEntry) → bics_kept es ≡ true → (i : ℕ) (d : HouseEntry) → i < length es → bic_formed (entry_text (get_or es i d)) ≡ true
@@ -60,6 +57,14 @@ given_text hs fs same n b d key =
     let within : n < length fs = subst (λ m. n < m) (same_size hs fs same) (item_below bic_of hs n (ap is_some key)) in
     let texts : map (λ h. (held_house h).0) hs ≡ map entry_text fs = sym (map-map (λ p. p.0) held_house hs) ∙ ap (map (λ p. p.0)) same ∙ map-map (λ p. p.0) given_house fs in
     (within, sym (texts_held hs n b key) ∙ ap (λ ts. get_or ts n []) texts ∙ get_or-map entry_text fs n d [] within)
+
+-- the BIC of an entry that keeps the rules is read
+pub read_some : (o : Option Bic) (t : List ℕ) → option_map bic_text o ≡ formed_only bic_formed t → bic_formed t ≡ true → IsSome o
+read_some (Some b) t read formed = refl
+read_some None t read formed = absurd (both_ways (bic_formed t) (formed_none bic_formed t read) formed)
+
+pub held_size : (es : List HouseEntry) (i : ℕ) (hs : List House) → i < length es → map held_house hs ≡ map given_house (take i es) → length hs ≡ i
+held_size es i hs h same = same_size hs (take i es) same ∙ length-take-le i es (omega arith)
 
 -- so no house has the BIC of the next entry
 pub still_new : (es : List HouseEntry) (i : ℕ) (hs : List House) (b : Bic) (d : HouseEntry) → bics_kept es ≡ true → i < length es → map held_house hs ≡ map given_house (take i es) → bic_text b ≡ entry_text (get_or es i d) → (n : ℕ) → key_of (map bic_of hs) n ≡ Some b → ⊥

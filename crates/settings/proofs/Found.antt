@@ -1,7 +1,11 @@
 -- Where a house is found. Assumes nothing.
-use Rattle.std.proofs.Common.{◌≡◌, ℕ, zero, suc, ◌<◌, ◌≤◌, false, cond, List, [], ◌∷◌, map, length, get_or, is_some, Some, None, sym, refl, ap, ◌∙◌, subst, arith}
-use Rattle.std.specs.Option.{option_map}
-use Rattle.std.proofs.lemmas.List.{get_or-map, get_or_past, length-map}
+use Rattle.std.proofs.Common.{◌≡◌, ℕ, zero, suc, false, cond, List, [], ◌∷◌, map, is_some, Some, None, Option, ◌≢◌, sym, refl, ap, ◌∙◌, arith}
+use Rattle.std.specs.Option.{option_map, MatchOption}
+use Rattle.std.specs.Ordering.{is_lt}
+use Rattle.std.specs.Cmp.{tied_itself, nat_cmp_total}
+use Rattle.index.specs.Order.{Complete}
+use Rattle.index.proofs.Completes.{complete_apart}
+use Rattle.keys.specs.Orders.{lesser}
 use Rattle.std.proofs.lemmas.Bool.{eq-eqb, ne_eqb}
 use Rattle.keys.specs.declared.bic.Bic.{Bic}
 use Rattle.keys.specs.Held.{bic_text}
@@ -9,15 +13,8 @@ use Rattle.keys.specs.Same.{bic_same}
 use Rattle.settings.specs.declared.house.House.{House}
 use Rattle.settings.specs.declared.opening.HouseEntry.{HouseEntry}
 use Rattle.settings.specs.Rules.{among}
-use Rattle.settings.specs.Places.{place_of, bic_at, held_house, given_house}
+use Rattle.settings.specs.Places.{bic_of, place_of, bic_at, held_house, given_house}
 use Rattle.settings.proofs.Builds.{given_text, not_among}
-
--- what a house that was read has, and what stands past the last
-pub read_at : {B : Type 0} (f : House → B) (hs : List House) (n : ℕ) (h : House) (e : B) → n < length hs → h ≡ get_or hs n h → f h ≡ get_or (map f hs) n e
-read_at f hs n h e within is = ap f is ∙ sym (get_or-map f hs n h e within)
-
-pub past_at : {B : Type 0} (f : House → B) (hs : List House) (n : ℕ) (e : B) → length hs ≤ n → e ≡ get_or (map f hs) n e
-past_at f hs n e past = sym (get_or_past (map f hs) n e (subst (λ m. m ≤ n) (sym (length-map hs f)) past))
 
 -- the place that alone has the BIC
 pub place_found : (hs : List House) (n : ℕ) (b : Bic) → bic_at hs n ≡ Some b → ((m : ℕ) → bic_at hs m ≡ Some b → m ≡ n) → place_of b hs ≡ Some n
@@ -35,6 +32,11 @@ place_none [] b lacks = refl
 place_none (h ∷ hs) b lacks =
     let never : h.bic.code ≡ b.code → ⊥ = λ e. lacks 0 (ap (λ x. Some x) (bic_same h.bic b e)) in
     ap (λ t. cond t (Some 0) (option_map (λ n. suc n) (place_of b hs))) (ne_eqb h.bic.code b.code never) ∙ ap (option_map (λ n. suc n)) (place_none hs b (λ n e. lacks (suc n) e))
+
+-- so what tells where the BIC stands is its place: the houses' BICs differ
+pub place_told : (b : Bic) (hs : List House) (ns : List ℕ) → Complete lesser (map bic_of hs) ns → (r : Option ℕ) → MatchOption r ((n : ℕ) → bic_at hs n ≢ Some b) (λ n. bic_at hs n ≡ Some b) → r ≡ place_of b hs
+place_told b hs ns held (Some n) at = sym (place_found hs n b at (λ m e. complete_apart lesser (map bic_of hs) ns (λ x. ap is_lt (tied_itself nat_cmp_total x.code)) b held m n e at))
+place_told b hs ns held None none = sym (place_none hs b none)
 
 -- the clearing has no place among houses whose BICs are not its own
 pub clearing_apart : (hs : List House) (es : List HouseEntry) (b : Bic) (t : List ℕ) (d : HouseEntry) → map held_house hs ≡ map given_house es → bic_text b ≡ t → among t es ≡ false → is_some (place_of b hs) ≡ false

@@ -3,4 +3,3 @@ pub mod Builds
 pub mod Bics
 pub mod Found
 pub mod Opens
-pub mod Kept

@@ -2,3 +2,4 @@ pub mod Answers
 pub mod Rules
 pub mod Places
 pub mod Opened
+pub mod Room

@@ -1,5 +1,6 @@
 -- The rules of opening, as tests. Assumes nothing.
-use Rattle.std.specs.Prelude.{◌≡◌, ◌≢◌, ℕ, ◌<◌, Bool, true, false, not, ◌&&◌, ◌||◌, List, [], ◌∷◌, length, get_or, nat_le, Decides}
+use Rattle.std.specs.Prelude.{◌≡◌, ◌≢◌, ℕ, ◌<◌, Bool, true, not, ◌&&◌, List, [], ◌∷◌, length, get_or, nat_le, Decides}
+use Rattle.std.specs.List.{list_any}
 use Rattle.std.specs.Str.{bytes_eq}
 use Rattle.codes.specs.Bics.{bic_formed}
 use Rattle.values.specs.Calendar.{valid_date}
@@ -17,8 +18,7 @@ entry_text e = e.bic.now
 
 -- one of the entries gives the BIC t
 abbrev pub among : List ℕ → List HouseEntry → Bool
-among t [] = false
-among t (e ∷ es) = bytes_eq t (entry_text e) || among t es
+among t es = list_any (λ e. bytes_eq t (entry_text e)) es
 
 -- a BIC t is formed, and no later house has it
 abbrev pub bic_kept : List ℕ → List HouseEntry → Bool

@@ -1,10 +1,8 @@
 // A directory of houses, made from entries that keep the rules.
-ghost use Rattle.std.specs.Prelude.{◌≡◌, ℕ, ◌+◌, ◌<◌, ◌≤◌, true, [], ◌∷◌, ◌++◌, map, length, IfOk, Some as Just, vec_len, vec_capacity, ◌≢◌};
-ghost use Rattle.index.specs.Contents.{entries as numbers, room as memory};
-ghost use Rattle.index.specs.Order.{key_of, Complete};
-ghost use Rattle.keys.specs.Orders.{lesser};
-ghost use Rattle.settings.specs.Places.{bic_of, held_house, given_house};
+ghost use Rattle.std.specs.Prelude.{◌≡◌, ℕ, ◌<◌, ◌≤◌, ◌≢◌, true, [], ◌∷◌, ◌++◌, map, length, IfOk};
+ghost use Rattle.settings.specs.Places.{bic_at, held_house, given_house};
 ghost use Rattle.settings.specs.Rules.{house_limit, bics_kept};
+ghost use Rattle.settings.specs.Room.{room as memory};
 
 use crate::directory::Directory;
 use crate::house::House;
@@ -13,50 +11,47 @@ use index::Index;
 use keys::Bic;
 use std::alloc::{AllocError, Global};
 
-// One house more, whose BIC none of the others has. There is room for it.
-fn add(houses: &mut Vec<House>, by_bic: &mut Index, house: House)
-    requires few { vec_len houses.old < house_limit }
-    requires room { vec_len houses.old < vec_capacity houses.old }
-    requires space { length (numbers by_bic.old) < memory by_bic.old }
-    requires complete { Complete lesser (map bic_of houses.old.items) (numbers by_bic.old) }
-    requires new { (n : ℕ) → key_of (map bic_of houses.old.items) n ≢ Just house.bic }
-    ensures houses { houses.new.items ≡ houses.old.items ++ house ∷ [] }
-    ensures count { vec_len houses.new ≡ vec_len houses.old + 1 }
-    ensures capacity { vec_capacity houses.new ≡ vec_capacity houses.old }
-    ensures complete { Complete lesser (map bic_of houses.new.items) (numbers by_bic.new) }
-    ensures numbers { length (numbers by_bic.new) ≡ length (numbers by_bic.old) + 1 }
-    ensures memory { memory by_bic.new ≡ memory by_bic.old }
-{
-    match by_bic.find(houses.as_slice(), &house.bic) {
-        Ok(_) => unreachable(),
-        Err(place) => {
-            let number = houses.len() as u16;
-            houses.push_reserved(house);
-            let _ = by_bic.insert_at(place, number);
-        }
+impl Directory {
+    // A directory of no houses, with memory for as many as `room`.
+    fn open(heap: Global, room: usize) -> Result<Directory, AllocError>
+        ensures { IfOk result (λ d. (d.houses.items ≡ []) × (room ≤ memory d)) }
+    {
+        Ok(Directory {
+            houses: Vec::with_capacity(heap, room)?,
+            by_bic: Index::open(heap, room)?,
+        })
     }
-}
 
-// The houses that the entries give, in their order.
-pub(crate) fn build(heap: Global, entries: &[HouseEntry]) -> Result<Directory, AllocError>
-    requires few { length entries.now ≤ house_limit }
-    requires kept { bics_kept entries.now ≡ true }
-    ensures { IfOk result (λ d. map held_house d.houses.items ≡ map given_house entries.now) }
-{
-    let mut houses = Vec::with_capacity(heap, entries.len())?;
-    let mut by_bic = Index::open(heap, entries.len())?;
-    for entry in entries {
-        match Bic::read(entry.bic) {
-            Some(bic) => add(
-                &mut houses,
-                &mut by_bic,
-                House {
-                    bic,
-                    suspended: entry.suspended,
-                },
-            ),
-            None => unreachable(),
-        }
+    // One house more, whose BIC none of the others has. There is memory for it.
+    fn add(&mut self, house: House)
+        requires few { length self.old.houses.items < house_limit }
+        requires room { length self.old.houses.items < memory self.old }
+        requires new { (n : ℕ) → bic_at self.old.houses.items n ≢ Some house.bic }
+        ensures houses { self.new.houses.items ≡ self.old.houses.items ++ house ∷ [] }
+        ensures room { memory self.new ≡ memory self.old }
+    {
+        let place = self
+            .by_bic
+            .find(self.houses.as_slice(), &house.bic)
+            .unwrap_err();
+        let number = self.houses.len() as u16;
+        self.houses.push_reserved(house);
+        let _ = self.by_bic.insert_at(place, number);
     }
-    Ok(Directory { houses, by_bic })
+
+    // The houses that the entries give, in their order.
+    pub(crate) fn of(heap: Global, entries: &[HouseEntry]) -> Result<Directory, AllocError>
+        requires few { length entries.now ≤ house_limit }
+        requires kept { bics_kept entries.now ≡ true }
+        ensures { IfOk result (λ d. map held_house d.houses.items ≡ map given_house entries.now) }
+    {
+        let mut directory = Directory::open(heap, entries.len())?;
+        for entry in entries {
+            directory.add(House {
+                bic: Bic::read(entry.bic).unwrap(),
+                suspended: entry.suspended,
+            });
+        }
+        Ok(directory)
+    }
 }

@@ -1,5 +1,5 @@
 // A house as it is held, and what it is found by.
-ghost use Rattle.std.specs.Prelude.{Some as Just};
+ghost use Rattle.std.specs.Prelude.{Some};
 
 use index::Keyed;
 use keys::Bic;
@@ -12,7 +12,7 @@ pub struct House {
 }
 
 impl Keyed<Bic> for House {
-    ghost called = { λ h. Just h.bic };
+    ghost called = { λ h. Some h.bic };
 
     fn key(&self) -> Option<Bic> {
         Some(self.bic)

@@ -53,12 +53,8 @@ mod tests {
                 suspended: true,
             },
         ];
-        let Ok(settings) = opened(&rt, &houses, b"HOUSLV22", b"EUR") else {
-            return Err(Fail::new("not opened"));
-        };
-        let Some(bic) = Bic::read(b"AAAALV22") else {
-            return Err(Fail::new("no BIC"));
-        };
+        let settings = opened(&rt, &houses, b"HOUSLV22", b"EUR")?;
+        let bic = Bic::read(b"AAAALV22").ok_or("no BIC")?;
         assert!(rt; settings.house_count() == 2);
         assert!(rt; settings.place_of(bic) == Some(1));
         assert!(rt; settings.place_of(settings.clearing()).is_none());

@@ -1,6 +1,7 @@
 // What is given to open with. Nothing here is taken on trust.
 
-// A house: the bytes of its BIC, whatever they are, and whether it is suspended.
+// A house as it is given: the bytes of its BIC, whatever they are, and whether it is suspended. A house that is held has a BIC;
+// one type over both would have two uses and be no plainer.
 #[derive(Clone, Copy)]
 pub struct HouseEntry<'a> {
     pub bic: &'a [u8],

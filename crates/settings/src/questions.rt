@@ -1,11 +1,11 @@
-// Settings opened, and what they answer.
-ghost use Rattle.std.specs.Prelude.{◌≡◌, ℕ, ◌≤◌, length, Some as Just, MatchOption, ◌≢◌};
+// Settings opened, and what they answer. Of houses they hand on what the directory answers, which is this crate's alone.
+ghost use Rattle.std.specs.Prelude.{◌≡◌, ℕ, ◌≤◌, length, MatchOption, ◌≢◌};
 ghost use Rattle.settings.specs.Places.{place_of, bic_at, suspended_at};
 ghost use Rattle.settings.specs.Rules.{house_limit, BicsLaw};
 ghost use Rattle.settings.specs.Opened.{Opened, houses_of};
 
 use crate::answers::OpenDenial;
-use crate::building::build;
+use crate::directory::Directory;
 use crate::opening::Opening;
 use crate::rules::are_houses_kept;
 use crate::settings::Settings;
@@ -16,31 +16,26 @@ use values::dates::Date;
 
 impl Settings {
     // Settings that hold what is given, where it keeps the rules and there is memory for the houses.
+    #[tactic(auto, using(crate::proofs::Bics::bics_law))]
     pub fn open(heap: Global, opening: &Opening) -> Result<Settings, OpenDenial>
         ensures opened { Opened opening.now result }
         ensures law { BicsLaw }
     {
-        let Some(date) = Date::new(opening.year, opening.month, opening.day) else {
-            return Err(OpenDenial::BreaksRule);
-        };
-        let Some(currency) = Currency::new(opening.currency) else {
-            return Err(OpenDenial::BreaksRule);
-        };
-        let Some(clearing) = Bic::read(opening.clearing) else {
-            return Err(OpenDenial::BreaksRule);
-        };
+        let date = Date::new(opening.year, opening.month, opening.day).ok_or(
+            OpenDenial::BreaksRule,
+        )?;
+        let currency = Currency::new(opening.currency).ok_or(OpenDenial::BreaksRule)?;
+        let clearing = Bic::read(opening.clearing).ok_or(OpenDenial::BreaksRule)?;
         if !are_houses_kept(clearing, opening.houses) {
             return Err(OpenDenial::BreaksRule);
         }
-        match build(heap, opening.houses) {
-            Ok(directory) => Ok(Settings {
-                date,
-                currency,
-                clearing,
-                directory,
-            }),
-            Err(_) => Err(OpenDenial::NoMemory),
-        }
+        let directory = Directory::of(heap, opening.houses)?;
+        Ok(Settings {
+            date,
+            currency,
+            clearing,
+            directory,
+        })
     }
 
     pub fn date(&self) -> Date
@@ -73,7 +68,7 @@ impl Settings {
     // The place of the house that has the BIC, or none where no house has it.
     pub fn place_of(&self, bic: Bic) -> Option<usize>
         ensures place { result ≡ place_of bic (houses_of self.now) }
-        ensures meaning { MatchOption result ((n : ℕ) → bic_at (houses_of self.now) n ≢ Just bic) (λ n. bic_at (houses_of self.now) n ≡ Just bic) }
+        ensures meaning { MatchOption result ((n : ℕ) → bic_at (houses_of self.now) n ≢ Some bic) (λ n. bic_at (houses_of self.now) n ≡ Some bic) }
     {
         self.directory.place_of(bic)
     }

@@ -1,5 +1,5 @@
 // The rules of opening that concern the houses.
-ghost use Rattle.std.specs.Prelude.{◌≡◌};
+ghost use Rattle.std.specs.Prelude.{◌≡◌, not};
 ghost use Rattle.keys.specs.Held.{bic_text};
 ghost use Rattle.settings.specs.Rules.{among, entry_text, bic_kept, bics_kept, houses_kept};
 
@@ -9,24 +9,20 @@ use keys::Bic;
 // How many houses there may be.
 const HOUSE_LIMIT: usize = 64;
 
-// Whether one of the houses has the BIC.
-fn is_among(bic: Bic, entries: &[HouseEntry]) -> bool
-    ensures { result ≡ among (bic_text bic) entries.now }
+// Whether none of the houses has the BIC.
+fn is_new(bic: Bic, entries: &[HouseEntry]) -> bool
+    ensures { result ≡ not (among (bic_text bic) entries.now) }
 {
-    for entry in entries {
-        if bic.is_written_as(entry.bic) {
-            return true;
-        }
-    }
-    false
+    !entries.iter().any(|entry| bic.is_written_as(entry.bic))
 }
 
 // Whether a house's BIC is formed, and no later house has it.
 fn is_bic_kept(entry: &HouseEntry, later: &[HouseEntry]) -> bool
     ensures { result ≡ bic_kept (entry_text entry.now) later.now }
 {
+    // a match, since a proof learns nothing of what a closure that captures a slice of entries answers
     match Bic::read(entry.bic) {
-        Some(bic) => !is_among(bic, later),
+        Some(bic) => is_new(bic, later),
         None => false,
     }
 }
@@ -35,8 +31,9 @@ fn is_bic_kept(entry: &HouseEntry, later: &[HouseEntry]) -> bool
 fn are_bics_kept(entries: &[HouseEntry]) -> bool
     ensures { result ≡ bics_kept entries.now }
 {
-    for i in 0..entries.len() {
-        if !is_bic_kept(&entries[i], entries.split_at(i + 1).1) {
+    // no `while let` over `split_first`, whose branches join where the rest differs: that is not covered
+    for (i, entry) in entries.iter().enumerate() {
+        if !is_bic_kept(entry, &entries[i + 1..]) {
             return false;
         }
     }
@@ -47,8 +44,7 @@ fn are_bics_kept(entries: &[HouseEntry]) -> bool
 pub(crate) fn are_houses_kept(clearing: Bic, entries: &[HouseEntry]) -> bool
     ensures { result ≡ houses_kept (bic_text clearing) entries.now }
 {
-    entries.len() >= 1
-        && entries.len() <= HOUSE_LIMIT
+    (1..=HOUSE_LIMIT).contains(&entries.len())
         && are_bics_kept(entries)
-        && !is_among(clearing, entries)
+        && is_new(clearing, entries)
 }

@@ -1,20 +1,16 @@
-use Rattle.std.proofs.Common.{length, sym, ap, ◌∙◌}
+use Rattle.std.proofs.Common.{ap, ◌∙◌}
 use Rattle.codes.specs.Bics.{bic_formed}
 use Rattle.keys.specs.Held.{bic_text}
+use Rattle.keys.specs.Same.{bic_same}
 use Rattle.keys.proofs.Packs.{same_from_spelled}
 use Rattle.keys.proofs.Forms.{bic_plain}
-use Rattle.keys.specs.Same.{bic_same}
+use Rattle.keys.proofs.Spelled.{counted_spelled}
 use Rattle.keys.proofs.bic.Bic.bytes.Goals as goal
-
-pub copy_from_slice-requires : goal.copy_from_slice-requires
-copy_from_slice-requires c =
-    let b = c.args.self in
-    sym (ap length (c.as_slice.ensures ∙ c.spell-spelling.ensures) ∙ (bic_plain (bic_text b) b.formed).0)
 
 pub returns : goal.returns
 returns c =
     let b = c.args.self in
-    let text = c.copy_from_slice.ensures.after ∙ c.as_slice.ensures ∙ c.spell-spelling.ensures in
+    let text = c.to_be_bytes.ensures ∙ counted_spelled 7 b.code (bic_plain (bic_text b) b.formed).0 in
     record {
       text = text;
       formed = ap bic_formed text ∙ b.formed;
