@@ -1,2 +1,2 @@
-pub mod Pieces
+mod Pieces
 pub mod Puts

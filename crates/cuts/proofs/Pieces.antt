@@ -1,26 +1,22 @@
 -- A field cut from a text of formed rows. Assumes nothing.
-use Rattle.std.proofs.Common.{◌≡◌, ℕ, zero, suc, ◌-◌, ◌<◌, ◌≤◌, Bool, true, false, cond, List, [], ◌∷◌, ◌++◌, length, take, drop, Some, None, sym, refl, ap, ◌∙◌, arith}
+use Rattle.std.proofs.Common.{is_some, Option, Bor, ◌≡◌, ℕ, zero, suc, ◌-◌, ◌<◌, ◌≤◌, Bool, true, false, cond, List, [], ◌∷◌, ◌++◌, length, take, drop, Some, None, sym, refl, ap, ◌∙◌, arith}
 use Rattle.std.specs.Str.{bytes_eq}
 use Rattle.std.proofs.lemmas.Slice.Eq.{bytes_eq-Decides}
 use Rattle.std.proofs.lemmas.List.{append_assoc, length-append, take-append-le, take_all, drop-append-le}
-use Rattle.std.proofs.lemmas.Bool.{cond-true, cond-false, and_parts, and_from}
+use Rattle.std.proofs.lemmas.Option.{same_Some, none-some}
+use Rattle.std.proofs.lemmas.Bool.{cond-true, cond-false, and_parts, and_from, true≢false, false≢true}
 use Rattle.text.specs.Chars.{belongs, every}
 use Rattle.text.specs.declared.class.Class.TheVariants.{Permitted}
 use Rattle.text.specs.declared.tag.Tag.{Tag}
+use Rattle.text.specs.declared.rows.Rows.{Rows}
 use Rattle.text.specs.Rows.{crlf, rows_of, put}
 use Rattle.text.specs.Tags.{is_tag, tag_in, tag_of, tag_size, tag_text}
-use Rattle.text.specs.Texts.{begun, row_formed, rows_formed, opens, good, formed}
+use Rattle.text.specs.Texts.{begun, row_formed, rows_formed, opens, good, formed, GivesRow}
 use Rattle.text.proofs.Cuts.{rows_cut, tag_first}
 use Rattle.text.proofs.Joins.{row_put, rows_put}
 use Rattle.text.proofs.TagTexts.{tag_row}
 use Rattle.cuts.proofs.Puts.{tag_fits, first_tag}
 use Rattle.cuts.specs.Cuts.{untagged, tagged, fields_of, leads, whole}
-
-some_is : (a b : Tag) → Some a ≡ Some b → a ≡ b
-some_is a b e = cc
-
-some_none : (a : Tag) → Some a ≡ None → ⊥
-some_none a e = let z : ◌≡◌ {A = ℕ} 0 1 = cc in omega arith
 
 -- the rows before the next tag and those from it on are all rows
 put_split : (rs : List (List ℕ)) → put rs ≡ put (untagged rs) ++ put (tagged rs)
@@ -107,44 +103,33 @@ field_rows t row rest bytes g e b =
     ap rows_of b ∙ row_put (drop size row) (put (untagged rs)) (every_drop (belongs Permitted) size row permitted)
     ∙ ap (λ l. drop size row ∷ l) (rows_put (untagged rs) (formed_untagged rs f.1))
 
--- the next field of a text, and the fields of what is left
-pub field_next : (t row rest after cut bytes : List ℕ) (tag : Tag) → whole t ≡ true → rows_of t ≡ row ∷ rows_of rest → tag_of row ≡ Some tag
-    → rows_of after ≡ tagged (rows_of rest) → good after ≡ true → cut ≡ take (length t - length after) t → bytes ≡ drop (tag_size tag) cut
-    → fields_of (rows_of t) ≡ record { tag = tag; rows = rows_of bytes } ∷ fields_of (rows_of after)
-field_next t row rest after cut bytes tag w e et ea ga ec eb =
-    let p = and_parts (good t) (leads (rows_of t)) w in
-    let yes : is_tag row ≡ true = sym (ap leads e) ∙ p.1 in
-    let same : tag_in row ≡ tag = some_is (tag_in row) tag (sym (cond-true (is_tag row) (Some (tag_in row)) None yes) ∙ et) in
-    let size : tag_size tag ≡ tag_size (tag_in row) = ap tag_size (sym same) in
-    let rows = field_rows t row rest bytes p.0 e (field_bytes t row rest after cut bytes p.0 e yes ea ga ec (eb ∙ ap (λ n. drop n cut) size)).1 in
-    ap fields_of e ∙ cond-true (is_tag row) _ _ yes
-    ∙ (λ i. record { tag = same i; rows = sym rows i } ∷ (sym (fields_tagged (rows_of rest)) ∙ ap fields_of (sym ea)) i)
-
 regrouped : (a b c d e : List ℕ) → (((a ++ b) ++ c) ++ d) ++ e ≡ a ++ (((b ++ c) ++ d) ++ e)
 regrouped a b c d e = simp append_assoc
 
--- the text is the tag as it is written, the field's bytes, and what is after them
-pub field_cut : (t row rest after cut bytes : List ℕ) (tag : Tag) → whole t ≡ true → rows_of t ≡ row ∷ rows_of rest → tag_of row ≡ Some tag
+-- the next field of a text, and the fields of what is left; and the text is the tag as it is written, the field's bytes, and what is after them
+pub field_next : (t row rest after cut bytes : List ℕ) (tag : Tag) → whole t ≡ true → rows_of t ≡ row ∷ rows_of rest → tag_of row ≡ Some tag
     → rows_of after ≡ tagged (rows_of rest) → good after ≡ true → cut ≡ take (length t - length after) t → bytes ≡ drop (tag_size tag) cut
-    → t ≡ tag_text tag ++ (bytes ++ after)
-field_cut t row rest after cut bytes tag w e et ea ga ec eb =
+    → (fields_of (rows_of t) ≡ record { tag = tag; rows = rows_of bytes } ∷ fields_of (rows_of after)) × (t ≡ tag_text tag ++ (bytes ++ after))
+field_next t row rest after cut bytes tag w e et ea ga ec eb =
     let p = and_parts (good t) (leads (rows_of t)) w in
     let yes : is_tag row ≡ true = sym (ap leads e) ∙ p.1 in
-    let same : tag_in row ≡ tag = some_is (tag_in row) tag (sym (cond-true (is_tag row) (Some (tag_in row)) None yes) ∙ et) in
+    let same : tag_in row ≡ tag = same_Some (tag_in row) tag (sym (cond-true (is_tag row) (Some (tag_in row)) None yes) ∙ et) in
     let size : tag_size tag ≡ tag_size (tag_in row) = ap tag_size (sym same) in
     let q = field_bytes t row rest after cut bytes p.0 e yes ea ga ec (eb ∙ ap (λ n. drop n cut) size) in
+    let split = field_rows t row rest bytes p.0 e q.1 in
     let left = drop (tag_size (tag_in row)) row in
     let rows = put (untagged (rows_of rest)) in
-    let written : row ≡ tag_text tag ++ left = sym (tag_row row yes) ∙ ap (λ g. tag_text g ++ left) same in
-    q.0 ∙ ap (λ r. ((r ++ 13 ∷ 10 ∷ []) ++ rows) ++ after) written
-    ∙ regrouped (tag_text tag) left (13 ∷ 10 ∷ []) rows after ∙ ap (λ b. tag_text tag ++ (b ++ after)) (sym q.1)
+    let written : row ≡ tag_text tag ++ left = sym (tag_row row yes) ∙ ap (λ g. tag_text g ++ left) same in (
+      ap fields_of e ∙ cond-true (is_tag row) _ _ yes ∙ (λ i. record { tag = same i; rows = sym split i } ∷ (sym (fields_tagged (rows_of rest)) ∙ ap fields_of (sym ea)) i),
+      q.0 ∙ ap (λ r. ((r ++ 13 ∷ 10 ∷ []) ++ rows) ++ after) written ∙ regrouped (tag_text tag) left (13 ∷ 10 ∷ []) rows after ∙ ap (λ b. tag_text tag ++ (b ++ after)) (sym q.1),
+    )
 
 -- a text whose first row is no tag is not whole
 pub no_tag : (t row rest : List ℕ) → whole t ≡ true → rows_of t ≡ row ∷ rows_of rest → tag_of row ≡ None → ⊥
 no_tag t row rest w e n =
     let p = and_parts (good t) (leads (rows_of t)) w in
     let yes : is_tag row ≡ true = sym (ap leads e) ∙ p.1 in
-    some_none (tag_in row) (sym (cond-true (is_tag row) (Some (tag_in row)) None yes) ∙ n)
+    none-some (tag_in row) (sym n ∙ cond-true (is_tag row) (Some (tag_in row)) None yes)
 
 pub whole_after : (rest after : List ℕ) → rows_of after ≡ tagged (rows_of rest) → good after ≡ true → whole after ≡ true
 whole_after rest after e g = and_from (good after) (leads (rows_of after)) g (ap leads e ∙ leads_tagged (rows_of rest))
@@ -168,3 +153,15 @@ pub tagged_on : (t after rest : List ℕ) (k : ℕ) → 0 < length t → is_tag 
 tagged_on t after rest k some h e g r =
     let y : rest ≡ drop 2 (drop (crlf t) t) = r ∙ ap (drop 2) (g ∙ ap (λ n. drop n t) e) in
     ap (λ u. tagged (rows_of u)) y ∙ sym (ap tagged (rows_cut t some) ∙ cond-false (is_tag (take (crlf t) t)) _ _ (tag_first t ∙ h))
+
+-- a row passed over that begins with no tag
+pub passed : (s t : Rows) (o : Option (Bor (List ℕ))) → GivesRow s o t → is_some o ≡ true → is_tag s.rest.now ≡ false → (tagged (rows_of t.rest.now) ≡ tagged (rows_of s.rest.now)) × (length t.rest.now < length s.rest.now)
+passed s t None g some bare = absurd (false≢true some)
+passed s t (Some x) g some bare =
+    let less = g.shorter in
+    (tagged_on s.rest.now (drop (crlf s.rest.now) s.rest.now) t.rest.now (crlf s.rest.now) (omega arith) bare refl refl g.rest, less)
+
+-- no row is left
+pub ended : (s t : Rows) (o : Option (Bor (List ℕ))) → GivesRow s o t → is_some o ≡ false → rows_of t.rest.now ≡ tagged (rows_of s.rest.now)
+ended s t None g none = g.rows.1 ∙ sym (ap tagged g.rows.0)
+ended s t (Some x) g none = absurd (true≢false none)

@@ -1,13 +1,14 @@
 // Cutting a text into its fields.
-ghost use Rattle.std.specs.Prelude.{◌≡◌, ◌<◌, ◌≤◌, true, [], ◌∷◌, ◌++◌, length, if◌then◌else◌, Some, None};
+ghost use Rattle.std.specs.Prelude.{◌≡◌, ◌≤◌, true, [], length, if◌then◌else◌};
+ghost use Rattle.std.specs.Iterator.{at_most};
 ghost use Rattle.text.specs.Rows.{rows_of};
-ghost use Rattle.text.specs.Tags.{tag_text};
 ghost use Rattle.text.specs.Texts.{good, formed};
-ghost use Rattle.cuts.specs.Cuts.{fields_of, tagged, FieldLaw};
+ghost use Rattle.cuts.specs.Cuts.{tagged, FieldLaw};
+ghost use Rattle.cuts.specs.Fields.{GivesField};
 
 use crate::tagged::{Fields, Tagged};
 use text::form::is_formed;
-use text::rows::{CR_LF, Rows, find_crlf};
+use text::rows::Rows;
 use text::slices::{front, skip};
 use text::tags::{is_tag, tag_of};
 
@@ -17,11 +18,9 @@ fn from_tag<'a>(text: &'a [u8]) -> &'a [u8]
     ensures formed { good text.now ≡ true → good result.now ≡ true }
     ensures shorter { length result.now ≤ length text.now }
 {
-    let mut rest = text;
-    while !rest.is_empty() && !is_tag(rest) {
-        rest = skip(skip(rest, find_crlf(rest)), CR_LF);
-    }
-    rest
+    let mut rows = Rows::new(text);
+    while !is_tag(rows.rest) && rows.next().is_some() {}
+    rows.rest
 }
 
 impl<'a> Fields<'a> {
@@ -37,21 +36,21 @@ impl<'a> Fields<'a> {
         }
         Fields { rest: text }
     }
+}
+
+impl<'a> Iterator for Fields<'a> {
+    type Item = Tagged<'a>;
+
+    ghost next_gives = { GivesField };
+
+    ghost remaining = { λ s. at_most (length s.rest.now) };
 
     // The next field: what is left is its tag as it is written, its bytes, and what is left then.
-    pub fn next(&mut self) -> Option<Tagged<'a>>
-        ensures fields { fields_of (rows_of self.old.rest.now) ≡ elim result [ None ↦ [] | Some f ↦ record { tag = f.tag; rows = rows_of f.bytes.now } ∷ fields_of (rows_of self.new.rest.now) ] }
-        ensures cut { self.old.rest.now ≡ elim result [ None ↦ self.new.rest.now | Some f ↦ tag_text f.tag ++ (f.bytes.now ++ self.new.rest.now) ] }
-        ensures shorter { elim result [ None ↦ self.new.rest.now ≡ self.old.rest.now | Some x ↦ length self.new.rest.now < length self.old.rest.now ] }
-    {
+    fn next(&mut self) -> Option<Tagged<'a>> {
         let rest = self.rest;
         let mut rows = Rows::new(rest);
-        let Some(row) = rows.next() else {
-            return None;
-        };
-        let Some(tag) = tag_of(row) else {
-            return None;
-        };
+        let row = rows.next()?;
+        let tag = tag_of(row)?;
         let after = from_tag(rows.rest);
         self.rest = after;
         Some(Tagged {

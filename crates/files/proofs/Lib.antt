@@ -1,3 +1,2 @@
-mod Counts
 mod StatedRows
 mod Taking

@@ -9,7 +9,7 @@ use Rattle.std.specs.Str.{bytes_eq}
 use Rattle.text.specs.Chars.{belongs, every, leading}
 use Rattle.text.specs.declared.class.Class.TheVariants.{Digit, Capital}
 use Rattle.values.specs.Amounts.{amount_of}
-use Rattle.values.specs.Digits.{number}
+use Rattle.text.specs.Digits.{number}
 use Rattle.values.specs.declared.currency.Currency.{Currency}
 use Rattle.files.specs.declared.control.Control.{Control}
 use Rattle.files.specs.Stated.{digits_in_front, count_of, pairing, stated_of, IsStated, StatedLaw}
@@ -18,7 +18,7 @@ front_by : (p : ℕ → Bool) (b : ℕ) (t : List ℕ) (v : Bool) → p b ≡ v 
 front_by p b t true e ih = and_from (p b) (every p (take (leading p t) t)) e ih
 front_by p b t false e ih = refl
 
-front_passes : (p : ℕ → Bool) (t : List ℕ) → every p (take (leading p t) t) ≡ true
+pub front_passes : (p : ℕ → Bool) (t : List ℕ) → every p (take (leading p t) t) ≡ true
 front_passes p [] = refl
 front_passes p (b ∷ t) = front_by p b t (p b) refl (front_passes p t)
 
@@ -38,8 +38,8 @@ no_digit_first [] a l h = absurd (omega arith)
 no_digit_first (x ∷ ls) a l h = cond-false (belongs Digit x) _ _ (no_digit x (and_parts (belongs Capital x) (every (belongs Capital) ls) h).0)
 
 paired : (o p : Option ℕ) (c : Control) → pairing o p ≡ Some c → (o ≡ Some c.count) × (p ≡ Some c.total)
-paired None p c e = let z : ◌≡◌ {A = ℕ} 0 1 = cc in absurd (omega arith)
-paired (Some n) None c e = let z : ◌≡◌ {A = ℕ} 0 1 = cc in absurd (omega arith)
+paired None p c e = cc
+paired (Some n) None c e = cc
 paired (Some n) (Some t) c e =
     let k : ◌≡◌ {A = Control} (record { count = n; total = t }) c = cc in
     (ap (λ x. Some x.count) k, ap (λ x. Some x.total) k)
@@ -54,8 +54,7 @@ counted_digits ds n e =
           (leb-true _ _ q.0, leb-true _ _ q.1, m)
       | inr h ↦
           let k : None ≡ Some n = sym (cond-false (leb 1 (length ds) && leb (length ds) 3) _ _ h) ∙ e in
-          let z : ◌≡◌ {A = ℕ} 0 1 = cc in
-          absurd (omega arith)
+          cc
     ]
 
 reads : (r : List ℕ) (m : Currency) (c : Control) → stated_of r m ≡ Some c → IsStated r m c
@@ -81,8 +80,7 @@ reads r m c e =
           }
       | inr h ↦
           let k : None ≡ Some c = sym (cond-false test _ _ h) ∙ e in
-          let z : ◌≡◌ {A = ℕ} 0 1 = cc in
-          absurd (omega arith)
+          cc
     ]
 
 is_read : (m : Currency) (c : Control) (ds a : List ℕ) → 0 < length m.letters → every (belongs Digit) ds ≡ true → 1 ≤ length ds → length ds ≤ 3 → c.count ≡ number ds → amount_of a ≡ Some c.total

@@ -1,10 +1,9 @@
 -- The verdict on a file's body.
 use Rattle.std.specs.Prelude.{◌≡◌, ℕ, ◌≤◌, Bool, true, not, ◌&&◌, List, [], ◌∷◌, length, drop, is_some, Some, None, Ok, Err, Option, Result, ◌==◌, nat_le, nat_lt}
 use Rattle.std.specs.Option.{unwrap_or}
-use Rattle.values.specs.declared.currency.Currency.{Currency}
-use Rattle.keys.specs.declared.bic.Bic.{Bic}
 use Rattle.frames.specs.Frames.{frames_in, only_frames}
 use Rattle.files.specs.declared.control.Control.{Control}
+use Rattle.files.specs.declared.control.Expected.{Expected}
 use Rattle.files.specs.declared.denial.FileDenial.{FileDenial}
 use Rattle.files.specs.declared.denial.FileDenial.TheVariants.{TooLong, NoControl, WrongCount, WrongSum}
 use Rattle.files.specs.Amounts.{counted_sum}
@@ -20,13 +19,13 @@ abbrev pub most_messages : ℕ
 most_messages = 999
 
 -- what the first frame states, if it is there and is a control message
-abbrev pub first_states : List (List ℕ) → Bic → Bic → Currency → Option Control
-first_states [] s k m = None
-first_states (c ∷ cs) s k m = control_of c s k m
+abbrev pub first_states : List (List ℕ) → Expected → Option Control
+first_states [] x = None
+first_states (c ∷ cs) x = control_of c x
 
 -- what a body's control message states
-unfoldable pub control_of_body : List ℕ → Bic → Bic → Currency → Option Control
-control_of_body b s k m = first_states (frames_in b) s k m
+unfoldable pub control_of_body : List ℕ → Expected → Option Control
+control_of_body b x = first_states (frames_in b) x
 
 -- the contents of the messages: all frames but the first
 abbrev pub messages_in : List ℕ → List (List ℕ)
@@ -61,9 +60,9 @@ answer (Some d) c = Err d
 abbrev pub verdict_on : List ℕ → Option Control → Result Control FileDenial
 verdict_on b o = answer (first_due (denials b o (unwrap_or o nothing))) (unwrap_or o nothing)
 
--- the verdict on the body of a file of the sender s to the clearing k in the currency m: the control message, or the first denial that is due
-abbrev pub body_verdict : List ℕ → Bic → Bic → Currency → Result Control FileDenial
-body_verdict b s k m = verdict_on b (control_of_body b s k m)
+-- the verdict on the body of a file of the expected sender to the clearing in the currency: the control message, or the first denial that is due
+abbrev pub body_verdict : List ℕ → Expected → Result Control FileDenial
+body_verdict b x = verdict_on b (control_of_body b x)
 
 -- what is known of a body that is not denied
 pub record Stands (b : List ℕ) (c : Control) : Type 0 where

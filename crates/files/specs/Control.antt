@@ -9,16 +9,13 @@ use Rattle.text.specs.declared.tag.Tag.{Tag}
 use Rattle.values.specs.declared.currency.Currency.{Currency}
 use Rattle.keys.specs.declared.bic.Bic.{Bic}
 use Rattle.keys.specs.Held.{bic_text}
-use Rattle.frames.specs.Layout.{Parts, Named, blocks_of, sender_of, type_of, receiver_of}
+use Rattle.frames.specs.Layout.{Parts, Named, blocks_of, sender_of, type_of, receiver_of, in_branch}
 use Rattle.cuts.specs.Cuts.{fields_of}
 use Rattle.cuts.specs.Cuts.{Parts as Field}
 use Rattle.fields.specs.Single.{single}
 use Rattle.files.specs.declared.control.Control.{Control}
+use Rattle.files.specs.declared.control.Expected.{Expected}
 use Rattle.files.specs.Stated.{stated_by}
-
--- the branch in every address
-abbrev pub branch_text : List ℕ
-branch_text = codes "XXX"
 
 -- the type of a control message
 abbrev pub control_type : List ℕ
@@ -26,11 +23,11 @@ control_type = codes "198"
 
 -- the address is the BIC's
 abbrev pub is_address : Named → Bic → Bool
-is_address n b = bytes_eq (bic_text b) n.bic && bytes_eq n.branch branch_text
+is_address n b = bytes_eq (bic_text b) n.bic && in_branch n
 
 -- from the sender, of the control message's type, to the clearing
-abbrev pub is_addressed : Parts → Bic → Bic → Bool
-is_addressed p s k = is_address (sender_of p.first) s && (bytes_eq (type_of p.second) control_type && is_address (receiver_of p.second) k)
+abbrev pub is_addressed : Parts → Expected → Bool
+is_addressed p x = is_address (sender_of p.first) x.sender && (bytes_eq (type_of p.second) control_type && is_address (receiver_of p.second) x.clearing)
 
 -- the fields of a text; one that is not formed has none
 abbrev pub fields_in : List ℕ → List Field
@@ -56,10 +53,10 @@ stated_in (f ∷ g ∷ []) m = cond (is_reference_field f.tag f.rows && is_total
 stated_in (f ∷ g ∷ h ∷ fs) m = None
 
 -- what the blocks of a content state, if they are of a control message
-abbrev pub control_in : Option Parts → Bic → Bic → Currency → Option Control
-control_in None s k m = None
-control_in (Some p) s k m = cond (is_addressed p s k) (stated_in (fields_in p.text) m) None
+abbrev pub control_in : Option Parts → Expected → Option Control
+control_in None x = None
+control_in (Some p) x = cond (is_addressed p x) (stated_in (fields_in p.text) x.currency) None
 
--- what the control message of the sender s to the clearing k in the currency m states, unless the content is no control message
-abbrev pub control_of : List ℕ → Bic → Bic → Currency → Option Control
-control_of c s k m = control_in (blocks_of c) s k m
+-- what the control message of the expected sender to the clearing in the currency states, unless the content is no control message
+abbrev pub control_of : List ℕ → Expected → Option Control
+control_of c x = control_in (blocks_of c) x

@@ -3,7 +3,7 @@ use Rattle.std.specs.Prelude.{◌≡◌, ℕ, ◌<◌, ◌≤◌, true, cond, �
 use Rattle.std.specs.Str.{bytes_eq}
 use Rattle.text.specs.Chars.{belongs, every, leading}
 use Rattle.text.specs.declared.class.Class.TheVariants.{Digit}
-use Rattle.values.specs.Digits.{number}
+use Rattle.text.specs.Digits.{number}
 use Rattle.values.specs.Amounts.{amount_of}
 use Rattle.values.specs.declared.currency.Currency.{Currency}
 use Rattle.files.specs.declared.control.Control.{Control}

@@ -11,8 +11,5 @@ use text::slices::skip;
 pub fn counted_amount(content: &[u8]) -> u64
     ensures { result ≡ counted_amount content.now }
 {
-    match amount_row(content) {
-        Some(row) => counted(skip(row, AMOUNT_TAG.len())),
-        None => 0,
-    }
+    amount_row(content).map_or(0, |row| counted(skip(row, AMOUNT_TAG.len())))
 }

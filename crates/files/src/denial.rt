@@ -1,29 +1,24 @@
-// Why a file is denied before its messages are judged.
+// Why a file is denied before its messages are judged, each by its number.
 ghost use Rattle.std.specs.Prelude.{◌≡◌};
 ghost use Rattle.files.specs.Denials.{number_of};
 
 #[derive(Clone, Copy, PartialEq, Eq, Debug)]
 pub enum FileDenial {
     // the body is too long
-    TooLong,
+    TooLong = 10,
     // the control message is missing or fails, or bytes stand outside frames
-    NoControl,
+    NoControl = 11,
     // the stated count is not that of the messages, or there are too few or too many of them
-    WrongCount,
+    WrongCount = 12,
     // the stated total is not the sum of the messages' counted amounts
-    WrongSum,
+    WrongSum = 13,
 }
 
 impl FileDenial {
-    // The number that the denial is answered by.
+    // The number that the denial is answered by. No crate of files stands on the keeper, whose trait tells such numbers.
     pub fn number(self) -> u32
         ensures { result ≡ number_of self }
     {
-        match self {
-            FileDenial::TooLong => 10,
-            FileDenial::NoControl => 11,
-            FileDenial::WrongCount => 12,
-            FileDenial::WrongSum => 13,
-        }
+        self as u32
     }
 }

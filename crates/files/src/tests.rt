@@ -1,5 +1,6 @@
 // Bodies at the edges of the rules.
 use crate::amounts::counted_amount;
+use crate::control::Expected;
 use crate::verdict::judge_body;
 use frames::fixed::SOH;
 use keys::Bic;
@@ -21,19 +22,16 @@ const GREATEST: &[u8] = b"\x01:32A:240229EUR99999999999999,\r\n\x03\r\n";
 
 // The number by which the body is denied, or 0.
 fn answer(body: &[u8]) -> Result<u32, Fail> {
-    let Some(sender) = Bic::read(b"ALFALV22") else {
-        return Err(Fail::new("no BIC"));
+    let expected = Expected {
+        sender: Bic::read(b"ALFALV22").ok_or("no BIC")?,
+        clearing: Bic::read(b"CLRGLV22").ok_or("no BIC")?,
+        currency: Currency::new(b"EUR").ok_or("no currency")?,
     };
-    let Some(clearing) = Bic::read(b"CLRGLV22") else {
-        return Err(Fail::new("no BIC"));
-    };
-    let Some(currency) = Currency::new(b"EUR") else {
-        return Err(Fail::new("no currency"));
-    };
-    match judge_body(body, sender, clearing, currency) {
-        Ok(_) => Ok(0),
-        Err(denial) => Ok(denial.number()),
-    }
+    Ok(
+        judge_body(body, expected)
+            .err()
+            .map_or(0, |denial| denial.number()),
+    )
 }
 
 // The answer to a control message that states this, and so many messages after it.

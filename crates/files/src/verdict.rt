@@ -3,36 +3,27 @@ ghost use Rattle.std.specs.Prelude.{◌≡◌, Ok, Err};
 ghost use Rattle.files.specs.Denials.{first_due};
 ghost use Rattle.files.specs.Bodies.{control_of_body, right_count, disagreements, answer, body_verdict, Stands};
 
-use crate::control::Control;
+use crate::control::{Control, Expected};
 use crate::denial::FileDenial;
 use crate::reading::read_control;
 use crate::tally::tally_of;
 use frames::reader::Reader;
-use keys::Bic;
-use values::currency::Currency;
 
 // The most bytes of a body.
 const LONGEST_BODY: usize = 1_048_576;
 // The most messages of a file.
 const MOST_MESSAGES: usize = 999;
 
-// The control message of a file that the sender handed in, or why the file is denied before its messages are judged.
-pub fn judge_body(
-    body: &[u8],
-    sender: Bic,
-    clearing: Bic,
-    currency: Currency,
-) -> Result<Control, FileDenial>
-    ensures verdict { result ≡ body_verdict body.now sender clearing currency }
+// The control message of a file that the expected sender handed in, or why the file is denied before its messages are judged.
+pub fn judge_body(body: &[u8], expected: Expected) -> Result<Control, FileDenial>
+    ensures verdict { result ≡ body_verdict body.now expected }
     ensures stands { elim result [ Ok c ↦ Stands body.now c | Err d ↦ Unit {0} ] }
 {
     if body.len() > LONGEST_BODY {
         return Err(FileDenial::TooLong);
     }
-    match first_control(body, sender, clearing, currency) {
-        Some(control) => against(body, control),
-        None => Err(FileDenial::NoControl),
-    }
+    let control = first_control(body, expected).ok_or(FileDenial::NoControl)?;
+    against(body, control)
 }
 
 // The verdict on the body's frames against what its control message states.
@@ -40,10 +31,7 @@ fn against(body: &[u8], control: Control) -> Result<Control, FileDenial>
     ensures verdict { result ≡ answer (first_due (disagreements body.now control)) control }
     ensures stands { elim result [ Ok c ↦ Stands body.now c | Err d ↦ Unit {0} ] }
 {
-    let tally = tally_of(body, control.total);
-    if !tally.whole {
-        return Err(FileDenial::NoControl);
-    }
+    let tally = tally_of(body, control.total).ok_or(FileDenial::NoControl)?;
     if !is_right_count(control.count, tally.messages) {
         return Err(FileDenial::WrongCount);
     }
@@ -54,12 +42,11 @@ fn against(body: &[u8], control: Control) -> Result<Control, FileDenial>
 }
 
 // What the first frame states.
-fn first_control(body: &[u8], sender: Bic, clearing: Bic, currency: Currency) -> Option<Control>
-    ensures { result ≡ control_of_body body.now sender clearing currency }
+#[tactic(auto, unfolding(crate::specs::Bodies::control_of_body))]
+fn first_control(body: &[u8], expected: Expected) -> Option<Control>
+    ensures { result ≡ control_of_body body.now expected }
 {
-    let mut reader = Reader::new(body);
-    let content = reader.next()?;
-    read_control(content, sender, clearing, currency)
+    read_control(Reader::new(body).next()?, expected)
 }
 
 // Whether there are as many messages as stated, and neither none nor too many.

@@ -4,4 +4,5 @@ mod Bodies
 mod Contents
 mod Cuts
 mod Places
+mod Reading
 mod Rowing

@@ -1,56 +1,49 @@
 -- How the first row is cut from bytes, and bytes put together from their rows. Assumes nothing.
-use Rattle.std.proofs.Common.{◌≡◌, ℕ, suc, ◌+◌, ◌<◌, ◌≤◌, Bool, true, false, cond, not, eqb, List, [], ◌∷◌, ◌++◌, length, get_or, take, drop, sym, refl, ap, ◌∙◌, arith}
+use Rattle.std.proofs.Common.{Option, Some, None, Bor, ◌≡◌, ℕ, suc, ◌<◌, ◌≤◌, Bool, true, false, cond, not, ◌&&◌, eqb, List, [], ◌∷◌, ◌++◌, length, get_or, take, drop, sym, refl, ap, ◌∙◌, arith}
+use Rattle.std.specs.Option.{option_map}
 use Rattle.std.specs.List.{flat_map}
-use Rattle.std.proofs.lemmas.List.{drop_more, at_drop_all, append_assoc}
-use Rattle.std.proofs.lemmas.Bool.{cond-true, cond-false, and_parts, and_from, not-true, not_from_false, and_right, false≢true}
-use Rattle.text.proofs.Cuts.{next_is}
+use Rattle.std.proofs.Math.Bool.{and-true}
+use Rattle.std.proofs.lemmas.List.{append_assoc}
+use Rattle.std.proofs.lemmas.Bool.{cond-false, and_parts, and_from, not-true, not_from_false, and_right}
+use Rattle.text.specs.Rows.{is_cr_lf, crlf as place}
 use Rattle.frames.specs.Fixed.{crlf, begins, on_first}
-use Rattle.frames.specs.Rows.{ended_rows, crlf_place, uncut, all_uncut, AreRows, RowsLaw}
+use Rattle.frames.specs.Rows.{ended_rows, uncut, all_uncut, AreRows, RowsLaw}
 use Rattle.frames.proofs.Begins.{begins_front}
 
-place_cons : (b : ℕ) (t : List ℕ) → begins crlf (b ∷ get_or t 0 0 ∷ []) ≡ false → crlf_place (b ∷ t) ≡ suc (crlf_place t)
-place_cons b [] h = refl
-place_cons b (c ∷ t) h = cond-false (begins crlf (b ∷ c ∷ t)) 0 (suc (crlf_place (c ∷ t))) h
+-- both say whether two bytes end a row
+ends_row : (b c : ℕ) (t : List ℕ) → begins crlf (b ∷ c ∷ t) ≡ is_cr_lf b c
+ends_row b c t = ap (λ v. eqb b 13 && v) (and-true (eqb c 10))
 
-place_here : (b : ℕ) (t : List ℕ) → begins crlf (b ∷ get_or t 0 0 ∷ []) ≡ true → crlf_place (b ∷ t) ≡ 0
-place_here b [] h = absurd (false≢true (and_parts (eqb b 13) false h).1)
-place_here b (c ∷ t) h = cond-true (begins crlf (b ∷ c ∷ t)) 0 (suc (crlf_place (c ∷ t))) h
+-- the rows by what a test of the first two bytes says
+rows_by : (b c : ℕ) (t : List ℕ) → ended_rows (b ∷ c ∷ t) ≡ cond (is_cr_lf b c) ([] ∷ ended_rows t) (on_first b (ended_rows (c ∷ t)))
+rows_by b c t = ap (λ v. cond v ([] ∷ ended_rows t) (on_first b (ended_rows (c ∷ t)))) (ends_row b c t)
 
-pub place_no : (s : List ℕ) (i : ℕ) → i < length s → begins crlf (get_or s i 0 ∷ get_or s (i + 1) 0 ∷ []) ≡ false → crlf_place (drop i s) ≡ suc (crlf_place (drop (i + 1) s))
-place_no s i h e = ap crlf_place (drop_more s i 0 h) ∙ place_cons (get_or s i 0) (drop (i + 1) s) (ap (λ c. begins crlf (get_or s i 0 ∷ c ∷ [])) (next_is s i) ∙ e)
-
-pub place_yes : (s : List ℕ) (i : ℕ) → i < length s → begins crlf (get_or s i 0 ∷ get_or s (i + 1) 0 ∷ []) ≡ true → crlf_place (drop i s) ≡ 0
-place_yes s i h e = ap crlf_place (drop_more s i 0 h) ∙ place_here (get_or s i 0) (drop (i + 1) s) (ap (λ c. begins crlf (get_or s i 0 ∷ c ∷ [])) (next_is s i) ∙ e)
-
-pub place_end : (s : List ℕ) (i : ℕ) → length s ≤ i → crlf_place (drop i s) ≡ 0
-place_end s i h = at_drop_all crlf_place s i h
-
-none_on : (b : ℕ) (c : ℕ) (t : List ℕ) (v : Bool) → (length (c ∷ t) ≤ crlf_place (c ∷ t) → ended_rows (c ∷ t) ≡ []) → suc (suc (length t)) ≤ cond v 0 (suc (crlf_place (c ∷ t))) → cond v ([] ∷ ended_rows t) (on_first b (ended_rows (c ∷ t))) ≡ []
+none_on : (b : ℕ) (c : ℕ) (t : List ℕ) (v : Bool) → (length (c ∷ t) ≤ place (c ∷ t) → ended_rows (c ∷ t) ≡ []) → suc (suc (length t)) ≤ cond v 0 (suc (place (c ∷ t))) → cond v ([] ∷ ended_rows t) (on_first b (ended_rows (c ∷ t))) ≡ []
 none_on b c t true ih h = absurd (omega arith)
 none_on b c t false ih h = ap (on_first b) (ih (omega arith))
 
-no_row : (t : List ℕ) → length t ≤ crlf_place t → ended_rows t ≡ []
+no_row : (t : List ℕ) → length t ≤ place t → ended_rows t ≡ []
 no_row [] h = refl
 no_row (b ∷ []) h = refl
-no_row (b ∷ c ∷ t) h = none_on b c t (begins crlf (b ∷ c ∷ t)) (no_row (c ∷ t)) h
+no_row (b ∷ c ∷ t) h = rows_by b c t ∙ none_on b c t (is_cr_lf b c) (no_row (c ∷ t)) h
 
 -- the first row of n bytes, and the rows of what follows its CrLf
 abbrev Cut : List ℕ → ℕ → List (List ℕ)
 Cut t n = take n t ∷ ended_rows (drop 2 (drop n t))
 
-some_on : (b : ℕ) (c : ℕ) (t : List ℕ) (v : Bool) → (crlf_place (c ∷ t) < length (c ∷ t) → ended_rows (c ∷ t) ≡ Cut (c ∷ t) (crlf_place (c ∷ t))) → cond v 0 (suc (crlf_place (c ∷ t))) < suc (suc (length t)) → cond v ([] ∷ ended_rows t) (on_first b (ended_rows (c ∷ t))) ≡ Cut (b ∷ c ∷ t) (cond v 0 (suc (crlf_place (c ∷ t))))
+some_on : (b : ℕ) (c : ℕ) (t : List ℕ) (v : Bool) → (place (c ∷ t) < length (c ∷ t) → ended_rows (c ∷ t) ≡ Cut (c ∷ t) (place (c ∷ t))) → cond v 0 (suc (place (c ∷ t))) < suc (suc (length t)) → cond v ([] ∷ ended_rows t) (on_first b (ended_rows (c ∷ t))) ≡ Cut (b ∷ c ∷ t) (cond v 0 (suc (place (c ∷ t))))
 some_on b c t true ih h = refl
 some_on b c t false ih h = ap (on_first b) (ih (omega arith))
 
-some_row : (t : List ℕ) → crlf_place t < length t → ended_rows t ≡ Cut t (crlf_place t)
+some_row : (t : List ℕ) → place t < length t → ended_rows t ≡ Cut t (place t)
 some_row [] h = absurd (omega arith)
 some_row (b ∷ []) h = absurd (omega arith)
-some_row (b ∷ c ∷ t) h = some_on b c t (begins crlf (b ∷ c ∷ t)) (some_row (c ∷ t)) h
+some_row (b ∷ c ∷ t) h = rows_by b c t ∙ some_on b c t (is_cr_lf b c) (some_row (c ∷ t)) h
 
-pub row_none : (t : List ℕ) (n : ℕ) → n ≡ crlf_place t → length t ≤ n → ended_rows t ≡ []
+pub row_none : (t : List ℕ) (n : ℕ) → n ≡ place t → length t ≤ n → ended_rows t ≡ []
 row_none t n e h = no_row t (omega arith)
 
-pub row_some : (t row after rest : List ℕ) (n : ℕ) → n ≡ crlf_place t → n < length t → row ≡ take n t → after ≡ drop n t → rest ≡ drop 2 after → ended_rows t ≡ row ∷ ended_rows rest
+pub row_some : (t row after rest : List ℕ) (n : ℕ) → n ≡ place t → n < length t → row ≡ take n t → after ≡ drop n t → rest ≡ drop 2 after → ended_rows t ≡ row ∷ ended_rows rest
 row_some t row after rest n e h f g k =
     let y : rest ≡ drop 2 (drop n t) = k ∙ ap (drop 2) g in
     some_row t (omega arith) ∙ ap (Cut t) (sym e) ∙ (λ i. sym f i ∷ ended_rows (sym y i))
@@ -121,3 +114,8 @@ rowed (b ∷ c ∷ t) = rowed_by b c t (begins crlf (b ∷ c ∷ t)) refl (rowed
 
 pub rows_law : RowsLaw
 rows_law b = (rowed b, λ rs last h. ap ended_rows h.0 ∙ rows_read rs last h.1 h.2)
+
+-- a row that is found, by the bytes that it borrows
+pub seen_row : (r : Option (Bor (List ℕ))) (o : Option (List ℕ)) → option_map (λ row. row.now) r ≡ o → o ≡ elim r [ None ↦ None | Some row ↦ Some row.now ]
+seen_row None o e = sym e
+seen_row (Some row) o e = sym e

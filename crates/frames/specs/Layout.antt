@@ -1,5 +1,6 @@
 -- The blocks of a frame's content, and the parts of each block.
-use Rattle.std.specs.Prelude.{◌≡◌, ℕ, ◌+◌, ◌-◌, Bool, true, cond, ◌&&◌, List, ◌++◌, length, take, drop, Some, None, Option, nat_le}
+use Rattle.std.specs.Prelude.{◌≡◌, ℕ, ◌+◌, ◌-◌, Bool, true, cond, ◌&&◌, List, ◌++◌, length, take, drop, Some, None, codes, Option, nat_le}
+use Rattle.std.specs.Str.{bytes_eq}
 use Rattle.text.specs.declared.class.Class.TheVariants.{Permitted}
 use Rattle.text.specs.Chars.{belongs, every}
 use Rattle.frames.specs.Fixed.{before_first, before_second, before_text, after_text, begins}
@@ -78,6 +79,13 @@ type_size = 3
 pub record Named : Type 0 where
   pub bic : List ℕ
   pub branch : List ℕ
+
+-- the branch of every address
+abbrev pub branch_text : List ℕ
+branch_text = codes "XXX"
+
+abbrev pub in_branch : Named → Bool
+in_branch n = bytes_eq n.branch branch_text
 
 -- a BIC and its branch, by their places in a block
 abbrev pub named_at : List ℕ → ℕ → ℕ → Named

@@ -1,6 +1,6 @@
 -- The rows of bytes, cut at each CrLf.
-use Rattle.std.specs.Prelude.{◌≡◌, ℕ, suc, Bool, true, cond, not, ◌&&◌, List, [], ◌∷◌, ◌++◌, Some, None, Option}
-use Rattle.std.specs.List.{flat_map}
+use Rattle.std.specs.Prelude.{◌≡◌, ℕ, Bool, true, cond, not, ◌&&◌, List, [], ◌∷◌, ◌++◌, Option}
+use Rattle.std.specs.List.{find, flat_map}
 use Rattle.frames.specs.Fixed.{crlf, amount_tag, begins, on_first}
 
 -- the rows that a CrLf ends; what follows the last CrLf is none
@@ -9,20 +9,9 @@ ended_rows [] = []
 ended_rows (b ∷ []) = []
 ended_rows (b ∷ c ∷ t) = cond (begins crlf (b ∷ c ∷ t)) ([] ∷ ended_rows t) (on_first b (ended_rows (c ∷ t)))
 
--- the first of the rows that begins so
-abbrev pub first_beginning : List ℕ → List (List ℕ) → Option (List ℕ)
-first_beginning p [] = None
-first_beginning p (r ∷ rs) = cond (begins p r) (Some r) (first_beginning p rs)
-
--- the row that tells the amount of a content
+-- the row that tells the amount of a content: the first ended one that begins with the amount's tag
 abbrev pub amount_row : List ℕ → Option (List ℕ)
-amount_row c = first_beginning amount_tag (ended_rows c)
-
--- where the first CrLf stands, or the length
-abbrev pub crlf_place : List ℕ → ℕ
-crlf_place [] = 0
-crlf_place (b ∷ []) = 1
-crlf_place (b ∷ c ∷ t) = cond (begins crlf (b ∷ c ∷ t)) 0 (suc (crlf_place (c ∷ t)))
+amount_row c = find (begins amount_tag) (ended_rows c)
 
 -- no CrLf stands in the bytes
 abbrev pub uncut : List ℕ → Bool

@@ -1,11 +1,11 @@
 // The blocks of a frame's content: `{1:`, block 1, `}{2:`, block 2, `}{4:` CrLf, the text, `-}`.
 ghost use Rattle.std.specs.Prelude.{◌≡◌};
 ghost use Rattle.frames.specs.Blocks.{parts_in, read_as, named_in};
-ghost use Rattle.frames.specs.Layout.{framed, blocks_of, named_at, sender_of, type_of, receiver_of, BlocksLaw, SenderLaw, ReceiverLaw};
+ghost use Rattle.frames.specs.Layout.{framed, blocks_of, named_at, sender_of, type_of, receiver_of, in_branch, BlocksLaw, SenderLaw, ReceiverLaw};
 
-use crate::fixed::{AFTER_TEXT, BEFORE_FIRST, BEFORE_SECOND, BEFORE_TEXT, begins_with};
+use crate::fixed::{AFTER_TEXT, BEFORE_FIRST, BEFORE_SECOND, BEFORE_TEXT};
 use text::class::Class;
-use text::slices::{front, skip};
+use text::slices::{begins, front, same, skip};
 
 // Blocks 1 and 2, each of permitted characters, and the text, of any bytes.
 #[derive(Clone, Copy)]
@@ -55,6 +55,9 @@ const BRANCH_SIZE: usize = 3;
 
 const TYPE_SIZE: usize = 3;
 
+// The branch of every address.
+const BRANCH: &[u8] = b"XXX";
+
 impl<'a> Blocks<'a> {
     // The blocks of a content, unless it is not made so.
     pub fn read(content: &'a [u8]) -> Option<Blocks<'a>>
@@ -99,15 +102,24 @@ impl<'a> Blocks<'a> {
     }
 }
 
+impl<'a> Address<'a> {
+    // Whether the branch is that of every address.
+    pub fn is_in_branch(self) -> bool
+        ensures { result ≡ in_branch (named_in self.entry) }
+    {
+        same(self.branch, BRANCH)
+    }
+}
+
 // Whether the fixed bytes stand in their places.
 fn is_framed(content: &[u8]) -> bool
     ensures { result ≡ framed content.now }
 {
     content.len() >= SHORTEST
-        && begins_with(content, BEFORE_FIRST)
-        && begins_with(skip(content, FIRST_END), BEFORE_SECOND)
-        && begins_with(skip(content, SECOND_END), BEFORE_TEXT)
-        && begins_with(skip(content, content.len() - AFTER_TEXT.len()), AFTER_TEXT)
+        && begins(content, BEFORE_FIRST)
+        && begins(skip(content, FIRST_END), BEFORE_SECOND)
+        && begins(skip(content, SECOND_END), BEFORE_TEXT)
+        && begins(skip(content, content.len() - AFTER_TEXT.len()), AFTER_TEXT)
 }
 
 fn address_at<'a>(block: &'a [u8], bic_at: usize, branch_at: usize) -> Address<'a>

@@ -1,5 +1,5 @@
 // From a file's bytes to its frames, from a frame's content to its blocks, and the row of a content that tells its amount.
-// Knows nothing of fields, of what an address or an amount means, or of the houses.
+// Knows nothing of fields, of whom an address names, of what an amount means, or of the houses.
 
 #![tactic(auto)]
 

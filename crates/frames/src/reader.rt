@@ -1,16 +1,17 @@
 // The frames of a body, one by one. A frame is 01h, its content up to the first 03h, that 03h and CrLf.
-ghost use Rattle.std.specs.Prelude.{◌≡◌, ◌+◌, ◌<◌, ◌≤◌, [], ◌∷◌, ◌++◌, length, drop, Some, None, ◌==◌, nat_eq};
+ghost use Rattle.std.specs.Prelude.{◌≡◌, ◌+◌, ◌<◌, ◌≤◌, [], ◌∷◌, ◌++◌, length, drop, Some, None, ◌==◌};
+ghost use Rattle.std.specs.Iterator.{at_most};
 ghost use Rattle.frames.specs.Frames.{frame, frames_in, only_frames, frame_count, FramesLaw};
-ghost use Rattle.frames.specs.Reading.{unread};
+ghost use Rattle.frames.specs.Reading.{unread, GivesFrame};
 
-use crate::fixed::{ETX, FRAME_END, SOH, begins_with};
+use crate::fixed::{ETX, FRAME_END, SOH};
 use text::chars::find;
-use text::slices::{byte, front, skip};
+use text::slices::{begins, byte, front, skip};
 
 // What a frame has besides its content: 01h, 03h and CrLf.
 const FRAMING: usize = 4;
 
-// A body and the place up to which it is read.
+// A body and the place up to which it is read: a rule of the project wants the place beside the body, and not a part of the body.
 #[derive(Drop)]
 pub struct Reader<'a> {
     body: &'a [u8],
@@ -24,18 +25,6 @@ impl<'a> Reader<'a> {
         Reader { body, at: 0 }
     }
 
-    // The content of the frame at the place, which then moves past it; nothing where no frame stands there.
-    pub fn next(&mut self) -> Option<&'a [u8]>
-        ensures frames { frames_in (unread self.old) ≡ elim result [ None ↦ [] | Some c ↦ c.now ∷ frames_in (unread self.new) ] }
-        ensures parts { elim result [ None ↦ self.new ≡ self.old | Some c ↦ unread self.old ≡ frame c.now ++ unread self.new ] }
-        ensures outside { only_frames (unread self.old) ≡ elim result [ None ↦ nat_eq (length (unread self.old)) 0 | Some c ↦ only_frames (unread self.new) ] }
-        ensures shorter { elim result [ None ↦ Unit {0} | Some c ↦ length (unread self.new) < length (unread self.old) ] }
-    {
-        let content = frame_at(self.body, self.at)?;
-        self.at += content.len() + FRAMING;
-        Some(content)
-    }
-
     // Whether all of the body is read.
     pub fn at_end(&self) -> bool
         ensures { result ≡ (length (unread self.now) == 0) }
@@ -44,17 +33,34 @@ impl<'a> Reader<'a> {
     }
 }
 
+impl<'a> Iterator for Reader<'a> {
+    type Item = &'a [u8];
+
+    ghost next_gives = { GivesFrame };
+
+    ghost remaining = { λ r. at_most (length (unread r)) };
+
+    // The content of the frame at the place, which then moves past it; nothing where no frame stands there.
+    fn next(&mut self) -> Option<&'a [u8]> {
+        let content = frame_at(self.body, self.at)?;
+        self.at += content.len() + FRAMING;
+        Some(content)
+    }
+}
+
 // The number of frames, unless bytes stand outside frames.
+#[tactic(auto, using(crate::proofs::Reading::counted))]
 pub fn count(body: &[u8]) -> Option<usize>
     ensures counted { result ≡ frame_count body.now }
     ensures law { FramesLaw }
 {
     let mut reader = Reader::new(body);
     let mut frames = 0;
+    // no `for` over the borrowed reader, since no contract says where that leaves it
     while let Some(_) = reader.next() {
         frames += 1;
     }
-    if reader.at_end() { Some(frames) } else { None }
+    reader.at_end().then_some(frames)
 }
 
 // The content of the frame that begins at the place, if one does.
@@ -71,7 +77,7 @@ fn frame_at<'a>(body: &'a [u8], at: usize) -> Option<&'a [u8]>
     }
     let inner = skip(rest, 1);
     let size = find(inner, ETX);
-    if !begins_with(skip(inner, size), FRAME_END) {
+    if !begins(skip(inner, size), FRAME_END) {
         return None;
     }
     Some(front(inner, size))

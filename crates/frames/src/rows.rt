@@ -1,62 +1,41 @@
 // The rows of a content as CrLf cuts it, and the row that tells its amount.
-ghost use Rattle.std.specs.Prelude.{◌≡◌, ◌<◌, [], ◌∷◌, length, Some, None};
-ghost use Rattle.frames.specs.Fixed.{crlf, begins};
-ghost use Rattle.frames.specs.Rows.{ended_rows, crlf_place, amount_row, RowsLaw};
+ghost use Rattle.std.specs.Prelude.{◌≡◌, length, Some, None};
+ghost use Rattle.std.specs.Iterator.{YieldsFirstBy, at_most};
+ghost use Rattle.frames.specs.Rows.{ended_rows, amount_row, RowsLaw};
 
-use crate::fixed::{AMOUNT_TAG, CR, LF, begins_with};
-use text::slices::{byte, front, skip};
+use crate::fixed::AMOUNT_TAG;
+use text::rows::{CR_LF, find_crlf};
+use text::slices::{begins, skip};
 
 // The first row ended by CrLf that begins with the amount's tag, without its CrLf.
 pub fn amount_row<'a>(content: &'a [u8]) -> Option<&'a [u8]>
     ensures told { amount_row content.now ≡ elim result [ None ↦ None | Some row ↦ Some row.now ] }
     ensures law { RowsLaw }
 {
-    let mut rest = content;
-    while let Some(cut) = first_row(rest) {
-        if begins_with(cut.row, AMOUNT_TAG) {
-            return Some(cut.row);
-        }
-        rest = cut.rest;
-    }
-    None
+    EndedRows { rest: content }.find(|row| begins(row, AMOUNT_TAG))
 }
 
-// A row without its CrLf, and what follows that.
-#[derive(Clone, Copy)]
-struct Cut<'a> {
-    row: &'a [u8],
+// The rows that are still to come, without those that no CrLf ends.
+#[derive(Drop)]
+struct EndedRows<'a> {
     rest: &'a [u8],
 }
 
-// The first row that a CrLf ends.
-fn first_row<'a>(bytes: &'a [u8]) -> Option<Cut<'a>>
-    ensures rows { ended_rows bytes.now ≡ elim result [ None ↦ [] | Some c ↦ c.row.now ∷ ended_rows c.rest.now ] }
-    ensures shorter { elim result [ None ↦ Unit {0} | Some c ↦ length c.rest.now < length bytes.now ] }
-{
-    let size = find_crlf(bytes);
-    if size >= bytes.len() {
-        return None;
-    }
-    let ending = skip(bytes, size);
-    Some(Cut {
-        row: front(bytes, size),
-        rest: skip(ending, 2),
-    })
-}
+impl<'a> Iterator for EndedRows<'a> {
+    type Item = &'a [u8];
 
-// Where the first CrLf stands, or the length.
-fn find_crlf(s: &[u8]) -> usize
-    ensures { result ≡ crlf_place s.now }
-{
-    let mut i = 0;
-    while i < s.len() && !is_crlf(s[i], byte(s, i + 1)) {
-        i += 1;
-    }
-    i
-}
+    ghost next_gives = { YieldsFirstBy (λ row. row.now) (λ s. ended_rows s.rest.now) };
 
-fn is_crlf(b: u8, c: u8) -> bool
-    ensures { result ≡ begins crlf (b ∷ c ∷ []) }
-{
-    b == CR && c == LF
+    ghost remaining = { λ s. at_most (length s.rest.now) };
+
+    #[tactic(auto, using(crate::proofs::Rowing::row_none, crate::proofs::Rowing::row_some))]
+    fn next(&mut self) -> Option<&'a [u8]> {
+        let size = find_crlf(self.rest);
+        if size >= self.rest.len() {
+            return None;
+        }
+        let (row, ending) = self.rest.split_at(size);
+        self.rest = skip(ending, CR_LF);
+        Some(row)
+    }
 }

@@ -9,23 +9,20 @@ use Rattle.names.specs.declared.kinds.FileKind.TheVariants.{Payments, Returns}
 use Rattle.names.specs.declared.kinds.FileName.{FileName}
 use Rattle.names.specs.declared.kinds.LastNumbers.{LastNumbers}
 use Rattle.names.specs.declared.kinds.NameDenial.{NameDenial}
-use Rattle.names.specs.declared.kinds.NameDenial.TheVariants.{WrongLength, WrongType, WrongDay, WrongNumber, UsedNumber, WrongExtension}
+use Rattle.names.specs.declared.kinds.NameDenial.TheVariants.{WrongLength, WrongDay, WrongNumber, UsedNumber, WrongExtension}
 use Rattle.names.specs.Names.{name_size, letters, kind_of, known, numeral, last_of, is_day, number_verdict, extension_verdict, parts_verdict, name_verdict, IsGood, NameLaw}
-
-no_denial : {X : Type 0} (d : NameDenial) (x : X) → ◌≡◌ {A = Result X NameDenial} (Err d) (Ok x) → ⊥
-no_denial d x h = let z : ◌≡◌ {A = ℕ} 0 1 = cc in omega arith
 
 -- a test that has to pass, and one that has to fail
 passed : {X : Type 0} (v : Bool) (r : Result X NameDenial) (d : NameDenial) (x : X) → cond v r (Err d) ≡ Ok x → (v ≡ true) × (r ≡ Ok x)
 passed true r d x h = (refl, h)
-passed false r d x h = absurd (no_denial d x h)
+passed false r d x h = cc
 
 failed : {X : Type 0} (v : Bool) (r : Result X NameDenial) (d : NameDenial) (x : X) → cond v (Err d) r ≡ Ok x → (v ≡ false) × (r ≡ Ok x)
-failed true r d x h = absurd (no_denial d x h)
+failed true r d x h = cc
 failed false r d x h = (refl, h)
 
 number_ok : (o : Option ℕ) (last n : ℕ) → number_verdict o last ≡ Ok n → (o ≡ Some n) × (n ≡ last + 1)
-number_ok None last n h = absurd (no_denial WrongNumber n h)
+number_ok None last n h = cc
 number_ok (Some m) last n h =
     let a = failed (eqb m 0 || ltb (last + 1) m) _ WrongNumber n h in
     let b = failed (leb m last) (Ok m) UsedNumber n a.1 in
@@ -35,18 +32,18 @@ number_ok (Some m) last n h =
     (ap Some e, omega arith)
 
 extension_ok : (k : FileKind) (r : Result ℕ NameDenial) (e : List ℕ) (f : FileName) → extension_verdict k r e ≡ Ok f → (r ≡ Ok f.number) × (k ≡ f.kind) × (known e ≡ true)
-extension_ok k (Err d) e f h = absurd (no_denial d f h)
+extension_ok k (Err d) e f h = cc
 extension_ok k (Ok n) e f h =
     let a = passed (known e) (Ok (record { kind = k; number = n })) WrongExtension f h in
     let g : record { kind = k; number = n } ≡ f = let b = a.1 in cc in
     (ap (λ (x : FileName). Ok x.number) g, ap (λ (x : FileName). x.kind) g, a.0)
 
 day_ok : (o : Option ℕ) (day : ℕ) → is_day o day ≡ true → o ≡ Some day
-day_ok None day h = let z : ◌≡◌ {A = ℕ} 0 1 = cc in absurd (omega arith)
+day_ok None day h = cc
 day_ok (Some d) day h = ap Some (eqb-true d day h)
 
 parts_ok : (k : Option FileKind) (d n : Option ℕ) (e : List ℕ) (day : ℕ) (last : LastNumbers) (f : FileName) → parts_verdict k d n e day last ≡ Ok f → (k ≡ Some f.kind) × (d ≡ Some day) × (n ≡ Some f.number) × (f.number ≡ last_of last f.kind + 1) × (known e ≡ true)
-parts_ok None d n e day last f h = absurd (no_denial WrongType f h)
+parts_ok None d n e day last f h = cc
 parts_ok (Some k) d n e day last f h =
     let a = passed (is_day d day) _ WrongDay f h in
     let b = extension_ok k (number_verdict n (last_of last k)) e f a.1 in
@@ -56,7 +53,7 @@ parts_ok (Some k) d n e day last f h =
 kind_by : (t : List ℕ) (k : FileKind) (v w : Bool) → bytes_eq t (letters Payments) ≡ v → bytes_eq t (letters Returns) ≡ w → cond v (Some Payments) (cond w (Some Returns) None) ≡ Some k → t ≡ letters k
 kind_by t k true w a b h = let e : Payments ≡ k = cc in (bytes_eq-Decides t (letters Payments)).0 a ∙ ap letters e
 kind_by t k false true a b h = let e : Returns ≡ k = cc in (bytes_eq-Decides t (letters Returns)).0 b ∙ ap letters e
-kind_by t k false false a b h = let z : ◌≡◌ {A = ℕ} 0 1 = cc in absurd (omega arith)
+kind_by t k false false a b h = cc
 
 accepted : (name : List ℕ) (day : ℕ) (last : LastNumbers) (f : FileName) → name_verdict name day last ≡ Ok f → IsGood name day last f
 accepted name day last f h =

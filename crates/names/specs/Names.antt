@@ -1,7 +1,8 @@
 -- The name of a file and the verdict on it.
-use Rattle.std.specs.Prelude.{◌≡◌, ℕ, ◌+◌, ◌-◌, ◌*◌, Bool, true, false, cond, ◌||◌, List, [], ◌∷◌, ◌++◌, length, take, drop, Some, None, Ok, Err, codes, Option, Result, ◌==◌, nat_le, nat_lt}
+use Rattle.std.specs.Prelude.{◌≡◌, ℕ, ◌+◌, Bool, true, false, cond, ◌||◌, List, ◌++◌, length, take, drop, Some, None, Ok, Err, codes, Option, Result, ◌==◌, nat_le, nat_lt}
 use Rattle.std.specs.Str.{bytes_eq}
 use Rattle.text.specs.Chars.{digit, every}
+use Rattle.text.specs.Digits.{number}
 use Rattle.names.specs.declared.kinds.FileKind.{FileKind}
 use Rattle.names.specs.declared.kinds.FileKind.TheVariants.{Payments, Returns}
 use Rattle.names.specs.declared.kinds.FileName.{FileName}
@@ -34,14 +35,13 @@ kind_of t = cond (bytes_eq t (letters Payments)) (Some Payments) (cond (bytes_eq
 abbrev pub known : List ℕ → Bool
 known e = bytes_eq e (codes ".ent") || bytes_eq e (codes ".p7m")
 
--- the number that digits tell, after n
-abbrev pub value : ℕ → List ℕ → ℕ
-value n [] = n
-value n (d ∷ ds) = value (n * 10 + (d - 48)) ds
+-- how many digits tell the number of a file
+abbrev pub number_size : ℕ
+number_size = 4
 
 -- the number that bytes tell, if all are digits
 abbrev pub numeral : List ℕ → Option ℕ
-numeral ds = cond (every digit ds) (Some (value 0 ds)) None
+numeral ds = cond (every digit ds) (Some (number ds)) None
 
 -- the last number used for a type
 abbrev pub last_of : LastNumbers → FileKind → ℕ

@@ -1,10 +1,10 @@
 // The verdict on a file's name.
-ghost use Rattle.std.specs.Prelude.{◌≡◌, [], ◌∷◌};
-ghost use Rattle.std.specs.Str.{bytes_eq};
-ghost use Rattle.names.specs.Names.{number_of, kind_of, known, numeral, is_day, last_of, number_verdict, parts_verdict, name_verdict, NameLaw};
+ghost use Rattle.std.specs.Prelude.{◌≡◌, ◌≤◌, [], ◌∷◌, length};
+ghost use Rattle.names.specs.Names.{number_of, kind_of, known, numeral, number_size, last_of, number_verdict, parts_verdict, name_verdict, NameLaw};
 
 use crate::kinds::{FileKind, FileName, LastNumbers, NameDenial};
-use text::class::Class;
+use text::digits;
+use text::slices::same;
 
 const EXTENSION_SIZE: usize = 4;
 
@@ -13,18 +13,11 @@ const PLAIN: &[u8] = b".ent";
 const SIGNED: &[u8] = b".p7m";
 
 impl NameDenial {
-    // The number by which it is answered.
+    // The number by which it is answered. Names do not stand on the keeper, whose trait tells such numbers.
     pub fn number(self) -> u8
         ensures { result ≡ number_of self }
     {
-        match self {
-            NameDenial::WrongLength => 4,
-            NameDenial::WrongType => 5,
-            NameDenial::WrongDay => 6,
-            NameDenial::WrongNumber => 7,
-            NameDenial::UsedNumber => 8,
-            NameDenial::WrongExtension => 9,
-        }
+        self as u8
     }
 }
 
@@ -51,8 +44,8 @@ pub fn judge_name(name: &[u8], day_of_year: u16, last: LastNumbers) -> Result<Fi
         return Err(NameDenial::WrongLength);
     }
     let kind = kind_of(*t0, *t1);
-    let day = three_digits(*d0, *d1, *d2);
-    let number = four_digits(*n0, *n1, *n2, *n3);
+    let day = numeral(&[*d0, *d1, *d2]);
+    let number = numeral(&[*n0, *n1, *n2, *n3]);
     judge_parts(kind, day, number, extension, day_of_year, last)
 }
 
@@ -67,10 +60,8 @@ fn judge_parts(
 ) -> Result<FileName, NameDenial>
     ensures { result ≡ parts_verdict kind day number extension.now day_of_year last }
 {
-    let Some(kind) = kind else {
-        return Err(NameDenial::WrongType);
-    };
-    if !is_day(day, day_of_year) {
+    let kind = kind.ok_or(NameDenial::WrongType)?;
+    if day != Some(day_of_year) {
         return Err(NameDenial::WrongDay);
     }
     let number = judge_number(number, last.of(kind))?;
@@ -90,41 +81,18 @@ fn kind_of(t0: u8, t1: u8) -> Option<FileKind>
     }
 }
 
-fn is_day(told: Option<u16>, day_of_year: u16) -> bool
-    ensures { result ≡ is_day told day_of_year }
+// The number that the digits of a name write; the day takes three of them, and the number of the file four.
+fn numeral(bytes: &[u8]) -> Option<u16>
+    requires { length bytes.now ≤ number_size }
+    ensures { result ≡ numeral bytes.now }
 {
-    match told {
-        Some(day) => day == day_of_year,
-        None => false,
-    }
-}
-
-fn three_digits(d0: u8, d1: u8, d2: u8) -> Option<u16>
-    ensures { result ≡ numeral (d0 ∷ d1 ∷ d2 ∷ []) }
-{
-    if !Class::Digit.has(d0) || !Class::Digit.has(d1) || !Class::Digit.has(d2) {
-        return None;
-    }
-    let front = u16::from(d0 - b'0') * 10 + u16::from(d1 - b'0');
-    Some(front * 10 + u16::from(d2 - b'0'))
-}
-
-fn four_digits(d0: u8, d1: u8, d2: u8, d3: u8) -> Option<u16>
-    ensures { result ≡ numeral (d0 ∷ d1 ∷ d2 ∷ d3 ∷ []) }
-{
-    let front = three_digits(d0, d1, d2)?;
-    if !Class::Digit.has(d3) {
-        return None;
-    }
-    Some(front * 10 + u16::from(d3 - b'0'))
+    u16::try_from(digits::number(bytes)?).ok()
 }
 
 fn judge_number(told: Option<u16>, last: u16) -> Result<u16, NameDenial>
     ensures { result ≡ number_verdict told last }
 {
-    let Some(number) = told else {
-        return Err(NameDenial::WrongNumber);
-    };
+    let number = told.ok_or(NameDenial::WrongNumber)?;
     if number == 0 || number - 1 > last {
         return Err(NameDenial::WrongNumber);
     }
@@ -137,11 +105,5 @@ fn judge_number(told: Option<u16>, last: u16) -> Result<u16, NameDenial>
 fn is_known(extension: &[u8]) -> bool
     ensures { result ≡ known extension.now }
 {
-    is_same(extension, PLAIN) || is_same(extension, SIGNED)
-}
-
-fn is_same(s: &[u8], t: &[u8]) -> bool
-    ensures { result ≡ bytes_eq s.now t.now }
-{
-    s == t
+    same(extension, PLAIN) || same(extension, SIGNED)
 }

@@ -23,19 +23,19 @@ pub struct LastNumbers {
     pub returns: u16,
 }
 
-// Why a name is denied, in the order of the checks.
+// Why a name is denied, in the order of the checks, each by its number.
 #[derive(Clone, Copy, PartialEq, Eq, Debug)]
 pub enum NameDenial {
     // not 13 bytes
-    WrongLength,
+    WrongLength = 4,
     // neither PL nor RL
-    WrongType,
+    WrongType = 5,
     // not the day of the year
-    WrongDay,
+    WrongDay = 6,
     // a number neither used nor next
-    WrongNumber,
+    WrongNumber = 7,
     // a used number
-    UsedNumber,
+    UsedNumber = 8,
     // neither .ent nor .p7m
-    WrongExtension,
+    WrongExtension = 9,
 }

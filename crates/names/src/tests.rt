@@ -8,10 +8,9 @@ fn answer(name: &[u8], payments: u16) -> u8 {
         payments,
         returns: 0,
     };
-    match judge_name(name, 56, last) {
-        Ok(_) => 0,
-        Err(denial) => denial.number(),
-    }
+    judge_name(name, 56, last)
+        .err()
+        .map_or(0, |denial| denial.number())
 }
 
 #[test]

@@ -1,26 +1,16 @@
-use Rattle.std.proofs.Common.{◌<◌, length, sym, ◌∙◌, arith, rules}
-use Rattle.text.proofs.Cuts.{row_shorter}
-use Rattle.text.proofs.Joins.{good_next}
-use Rattle.cuts.proofs.Pieces.{tagged_here, tagged_on}
+use Rattle.std.proofs.Common.{sym, ap, ◌∙◌, arith, rules}
+use Rattle.text.specs.Rows.{rows_of}
+use Rattle.cuts.proofs.Pieces.{tagged_here, passed, ended}
 use Rattle.cuts.proofs.cutting.from_tag.Goals as goal
+use Rattle.cuts.proofs.cutting.from_tag.Goals.{then-loop-rows-test+else-is_some, else-loop-rows-test}
 
-pub loop-rest-smaller : goal.loop-rest-smaller
-loop-rest-smaller c =
-    let some : 0 < length c.loop-rest.rest.now = search rules in
-    row_shorter _ _ _ _ some c.skip.ensures c.skip-rest.ensures
+pub loop-rows-preserved : goal.loop-rows-preserved
+loop-rows-preserved c =
+    let p = passed c.loop-rows.rows c.next.new.self c.next.result c.next.ensures.steps (sym c.is_some.ensures ∙ c.if-is_some.true) (search rules) in
+    (p.0 ∙ c.loop-rows.invariant.0, (λ g. c.next.ensures.steps.formed (c.loop-rows.invariant.1 g)), omega arith)
 
-pub loop-rest-preserved : goal.loop-rest-preserved
-loop-rest-preserved c =
-    let some : 0 < length c.loop-rest.rest.now = search rules in
-    let less = row_shorter _ _ _ _ some c.skip.ensures c.skip-rest.ensures in (
-      tagged_on _ _ _ _ some (sym c.if-not-is_tag.ensures) c.find_crlf.ensures c.skip.ensures c.skip-rest.ensures ∙ c.loop-rest.invariant.0,
-      (λ g. good_next _ _ _ _ some c.find_crlf.ensures c.skip.ensures c.skip-rest.ensures (c.loop-rest.invariant.1 g)),
-      omega arith,
-    )
-
-pub returns-else-not-is_tag : goal.returns-else-not-is_tag
-returns-else-not-is_tag c = record {
-  rows = tagged_here c.loop-rest.rest.now (sym c.if-not-is_tag.ensures) ∙ c.loop-rest.invariant.0;
-  formed = c.loop-rest.invariant.1;
-  shorter = c.loop-rest.invariant.2;
-}
+pub returns-clause-rows : goal.returns-clause-rows
+returns-clause-rows c = elim c.loop-rows-test.branch [
+  | then-loop-rows-test+else-is_some w ↦ ap (λ r. rows_of r.rest.now) w.rows-is ∙ ended c.loop-rows.rows w.next.new.self w.next.result w.next.ensures.steps (sym w.is_some.ensures ∙ w.if-is_some.false) ∙ c.loop-rows.invariant.0
+  | else-loop-rows-test w ↦ ap (λ r. rows_of r.rest.now) w.rows-is ∙ tagged_here c.loop-rows.rows.rest.now (search rules) ∙ c.loop-rows.invariant.0
+]

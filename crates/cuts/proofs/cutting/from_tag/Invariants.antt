@@ -4,11 +4,11 @@ use Rattle.text.specs.Texts.{good}
 use Rattle.cuts.specs.Cuts.{tagged}
 use Rattle.cuts.proofs.cutting.from_tag.Given as goal
 
-abbrev pub invariant-loop-rest : goal.invariant-loop-rest
-invariant-loop-rest l =
-    (tagged (rows_of l.rest) ≡ tagged (rows_of l.text))
-    × (good l.text ≡ true → good l.rest ≡ true)
-    × (length l.rest ≤ length l.text)
+abbrev pub invariant-loop-rows : goal.invariant-loop-rows
+invariant-loop-rows l =
+    (tagged (rows_of l.rows.rest.now) ≡ tagged (rows_of l.text))
+    × (good l.text ≡ true → good l.rows.rest.now ≡ true)
+    × (length l.rows.rest.now ≤ length l.text)
 
-abbrev pub decreases-loop-rest : goal.decreases-loop-rest
-decreases-loop-rest l = length l.rest
+abbrev pub decreases-loop-rows : goal.decreases-loop-rows
+decreases-loop-rows l = length l.rows.rest.now

@@ -1,6 +1,6 @@
 use Rattle.std.proofs.Common.{rules}
-use Rattle.files.proofs.Taking.{spent_sum}
+use Rattle.files.proofs.Taking.{spent_sum, agrees_in}
 use Rattle.files.proofs.tally.tally_of.Goals as goal
 
-pub returns : goal.returns
-returns c = record { whole = search rules; messages = search rules; agrees = search (rules, spent_sum) }
+pub returns-clause-agrees : goal.returns-clause-agrees
+returns-clause-agrees c = agrees_in _ _ _ _ c.then_some.ensures (search (rules, spent_sum))

@@ -5,16 +5,15 @@ use Rattle.frames.proofs.Bodies.{step_at, only_more, frame_size}
 use Rattle.frames.proofs.Cuts.{frame_none, frame_some, frame_parts}
 use Rattle.frames.proofs.reader.frame_at.Goals as goal
 
-pub returns-then-not-begins_with : goal.returns-then-not-begins_with
-returns-then-not-begins_with c =
+pub returns-then-not-begins-clause-frames : goal.returns-then-not-begins-clause-frames
+returns-then-not-begins-clause-frames c =
     let opens = sym c.byte.ensures ∙ c.if-byte-ne-SOH.false in
-    let none = frame_none c.skip-rest.result.now _ _ _ opens c.skip-inner.ensures c.find-size.ensures c.skip.ensures (sym c.if-not-begins_with.ensures) in
-    record { frames = ap frames_in (sym c.skip-rest.ensures) ∙ none; parts = tt; outside = tt; shorter = tt; within = tt }
+    ap frames_in (sym c.skip-rest.ensures) ∙ frame_none c.skip-rest.result.now _ _ _ opens c.skip-inner.ensures c.find-size.ensures c.skip.ensures (sym c.if-not-begins.ensures)
 
 pub returns : goal.returns
 returns c =
     let opens = sym c.byte.ensures ∙ c.if-byte-ne-SOH.false in
-    let closes = sym c.if-not-begins_with.ensures in
+    let closes = sym c.if-not-begins.ensures in
     let some = frame_some c.skip-rest.result.now _ _ _ _ opens c.skip-inner.ensures c.find-size.ensures c.skip.ensures closes c.front.ensures in
     let parts = frame_parts c.skip-rest.result.now _ _ _ _ opens c.skip-inner.ensures c.find-size.ensures c.skip.ensures closes c.front.ensures in
     let s = step_at c.args.body.now _ _ c.args.at c.skip-rest.ensures some parts in
