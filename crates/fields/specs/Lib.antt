@@ -5,4 +5,5 @@ pub mod Party
 pub mod Run
 pub mod Shapes
 pub mod Single
+pub mod Tests
 pub mod Value

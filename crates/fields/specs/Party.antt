@@ -6,10 +6,8 @@ use Rattle.faults.specs.declared.code.Fault.{Fault}
 use Rattle.codes.specs.Accounts.{account_ok}
 use Rattle.fields.specs.Faults.{when, first_fault, answer}
 use Rattle.fields.specs.Letters.{letter_is}
-use Rattle.fields.specs.Lines.{slash, fails, first_row}
+use Rattle.fields.specs.Lines.{slash, bad_line, bad_with_account, later_slash, first_row}
 use Rattle.fields.specs.Shapes.{Part, party}
-use Rattle.fields.specs.declared.check.RowCheck.{RowCheck}
-use Rattle.fields.specs.declared.check.RowCheck.TheVariants.{Lines, AccountAndLines, LaterSlash}
 
 -- the most rows of name and address
 abbrev pub name_rows : ℕ
@@ -25,9 +23,10 @@ abbrev pub names_of : List (List ℕ) → List (List ℕ)
 names_of [] = []
 names_of (r ∷ rs) = cond (slash r) rs (r ∷ rs)
 
-abbrev pub rows_with : Bool → RowCheck
-rows_with true = AccountAndLines (1 + name_rows)
-rows_with false = Lines name_rows
+-- a row that is bad where the party has an account, or where it has none
+abbrev pub bad_row : Bool → ℕ → List ℕ → Bool
+bad_row true = bad_with_account (1 + name_rows)
+bad_row false = bad_line name_rows
 
 -- what every Latvian account number begins with
 abbrev pub latvia : List ℕ
@@ -46,8 +45,8 @@ bad_latvian (Some a) = is_latvian a && not (account_ok a)
 abbrev pub party_of : Option ℕ → Option ℕ → ℕ → List (List ℕ) → Result Part Fault
 party_of asked letter field rs = answer (first_fault field (
     (F06, when (not (letter_is asked letter)) 1)
-    ∷ (F06, first_row (fails (rows_with (is_some (account_of rs)))) 1 rs)
-    ∷ (T12, first_row (fails LaterSlash) 1 rs)
+    ∷ (F06, first_row (bad_row (is_some (account_of rs))) 1 rs)
+    ∷ (T12, first_row later_slash 1 rs)
     ∷ (T13, when (length (names_of rs) == 0) 0)
     ∷ (T31, when (bad_latvian (account_of rs)) 1)
     ∷ [])) (party (account_of rs) (names_of rs))

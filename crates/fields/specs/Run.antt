@@ -5,13 +5,12 @@ use Rattle.faults.specs.declared.code.Code.TheVariants.{F06, T27, T28}
 use Rattle.faults.specs.declared.code.Fault.{Fault}
 use Rattle.text.specs.Chars.{digit, capital}
 use Rattle.fields.specs.Faults.{when, first_fault, answer}
-use Rattle.fields.specs.Lines.{fails, first_row}
+use Rattle.fields.specs.Lines.{bad_line, first_row}
 use Rattle.fields.specs.Shapes.{Part, rows}
-use Rattle.fields.specs.declared.check.RowCheck.TheVariants.{Lines}
 
 -- the row at fault where there may be 1 to so many: none there, one too many, empty or too long
 abbrev pub run_row : ℕ → List (List ℕ) → Option ℕ
-run_row most rs = cond (length rs == 0) (Some 1) (first_row (fails (Lines most)) 1 rs)
+run_row most rs = cond (length rs == 0) (Some 1) (first_row (bad_line most) 1 rs)
 
 -- 1 to 4 rows
 abbrev pub remittance_of : ℕ → List (List ℕ) → Result Part Fault

@@ -3,7 +3,7 @@
 
 #![tactic(auto)]
 
-mod check;
+mod fault;
 pub mod letters;
 mod lines;
 mod lone;

@@ -1,51 +1,39 @@
 // The first row of a field that fails a check.
-ghost use Rattle.std.specs.Prelude.{◌≡◌, length, ◌==◌};
+ghost use Rattle.std.specs.Prelude.{◌≡◌, ℕ, Bool, List, length, ◌==◌};
 ghost use Rattle.text.specs.Rows.{rows_of};
 ghost use Rattle.fields.specs.Lines.{bad_line, bad_account, first_row};
-ghost use Rattle.fields.specs.Lines.{fails as failing};
+ghost use Rattle.fields.specs.Tests.{TestsNumbered};
 
-use crate::check::RowCheck;
 use text::rows::Rows;
-use text::slices::byte;
 
 // The most characters of a row.
 const WIDEST: usize = 35;
 
-fn bad_line(most: u64, n: u64, row: &[u8]) -> bool
+// A row that is one too many, empty or too long.
+pub(crate) fn bad_line(most: u64, n: u64, row: &[u8]) -> bool
     ensures { result ≡ bad_line most n row.now }
 {
     n > most || row.len() < 1 || row.len() > WIDEST
 }
 
 // A slash with no account after it, or with too long a one.
-fn bad_account(row: &[u8]) -> bool
+pub(crate) fn bad_account(row: &[u8]) -> bool
     ensures { result ≡ bad_account row.now }
 {
     row.len() < 2 || row.len() > WIDEST
 }
 
-fn fails(check: RowCheck, n: u64, row: &[u8]) -> bool
-    ensures { result ≡ failing check n row.now }
+// The number of the first row that fails the check: it is sought, so that none is no failure.
+pub(crate) fn first_row<F: Fn(u64, &[u8]) -> bool>(bytes: &[u8], fails: F) -> Option<u64>
+    ghost bad: { ℕ → List ℕ → Bool }
+    requires callable { F.IsAlwaysCallable fails }
+    requires tests { TestsNumbered F.Fn bad fails }
+    ensures { result ≡ first_row bad 1 (rows_of bytes.now) }
 {
-    match check {
-        RowCheck::Lines(most) => bad_line(most, n, row),
-        RowCheck::AccountAndLines(_) if n == 1 => bad_account(row),
-        RowCheck::AccountAndLines(most) => bad_line(most, n, row),
-        RowCheck::LaterSlash => n > 1 && byte(row, 0) == b'/',
-    }
-}
-
-// The number of the first row that fails the check.
-pub(crate) fn first_row(check: RowCheck, bytes: &[u8]) -> Option<u64>
-    ensures { result ≡ first_row (failing check) 1 (rows_of bytes.now) }
-{
-    let mut rows = Rows::new(bytes);
-    let mut n = 1;
-    while let Some(row) = rows.next() {
-        if fails(check, n, row) {
+    for (n, row) in (1..).zip(Rows::new(bytes)) {
+        if fails(n, row) {
             return Some(n);
         }
-        n += 1;
     }
     None
 }

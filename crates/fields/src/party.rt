@@ -2,18 +2,19 @@
 ghost use Rattle.std.specs.Prelude.{◌≡◌, Some, None};
 ghost use Rattle.std.specs.Option.{option_map};
 ghost use Rattle.text.specs.Rows.{rows_of};
-ghost use Rattle.fields.specs.Party.{account_of, names_of, rows_with, is_latvian, bad_latvian, party_of};
+ghost use Rattle.fields.specs.Party.{account_of, names_of, bad_row, is_latvian, bad_latvian, party_of};
+ghost use Rattle.fields.specs.Lines.{later_slash};
 ghost use Rattle.fields.specs.Shapes.{seen};
 
-use crate::check::RowCheck;
+use crate::fault::fault_in;
 use crate::letters::letter_is;
-use crate::lines::{first_row, no_rows};
+use crate::lines::{bad_account, bad_line, first_row, no_rows};
 use crate::shape::Field;
 use codes::accounts::is_latvian_account;
 use cuts::tagged::Tagged;
 use faults::{Code, Fault};
 use text::rows::Rows;
-use text::slices::{begins, byte, skip};
+use text::slices::{begins, byte};
 
 // The most rows of name and address.
 const NAME_ROWS: u64 = 4;
@@ -36,32 +37,33 @@ fn account_and_names<'a>(bytes: &'a [u8]) -> Split<'a>
     ensures names { rows_of result.names.now ≡ names_of (rows_of bytes.now) }
 {
     let mut rows = Rows::new(bytes);
-    let Some(row) = rows.next() else {
-        return Split {
+    match rows.next().and_then(|row| row.strip_prefix(b"/")) {
+        Some(account) => Split {
+            account: Some(account),
+            names: rows.rest,
+        },
+        None => Split {
             account: None,
             names: bytes,
-        };
-    };
-    if byte(row, 0) != b'/' {
-        return Split {
-            account: None,
-            names: bytes,
-        };
-    }
-    Split {
-        account: Some(skip(row, 1)),
-        names: rows.rest,
+        },
     }
 }
 
-fn rows_with(account: bool) -> RowCheck
-    ensures { result ≡ rows_with account }
+// Whether a row is bad where the party has an account, or where it has none.
+fn is_bad_row(has_account: bool, n: u64, row: &[u8]) -> bool
+    ensures { result ≡ bad_row has_account n row.now }
 {
-    if account {
-        RowCheck::AccountAndLines(1 + NAME_ROWS)
-    } else {
-        RowCheck::Lines(NAME_ROWS)
+    match (has_account, n) {
+        (true, 1) => bad_account(row),
+        (true, _) => bad_line(1 + NAME_ROWS, n, row),
+        (false, _) => bad_line(NAME_ROWS, n, row),
     }
+}
+
+fn is_later_slash(n: u64, row: &[u8]) -> bool
+    ensures { result ≡ later_slash n row.now }
+{
+    n > 1 && byte(row, 0) == b'/'
 }
 
 // Whether the account says that it is Latvian.
@@ -74,53 +76,30 @@ pub fn is_latvian(account: &[u8]) -> bool
 fn is_bad_latvian(account: Option<&[u8]>) -> bool
     ensures { result ≡ bad_latvian (option_map (λ x. x.now) account.entry) }
 {
-    match account {
-        None => false,
-        Some(a) => is_latvian(a) && !is_latvian_account(a),
-    }
+    account.is_some_and(|a| is_latvian(a) && !is_latvian_account(a))
 }
 
 fn party<'a>(asked: Option<u8>, f: Tagged<'a>) -> Result<Field<'a>, Fault>
     ensures { seen result ≡ party_of asked f.entry.tag.letter f.entry.tag.number (rows_of f.entry.bytes.now) }
 {
-    let field = f.tag.number;
     if !letter_is(asked, f.tag.letter) {
-        return Err(Fault {
-            code: Code::F06,
-            field,
-            row: 1,
-        });
+        return Err(fault_in(f.tag, Code::F06, 1));
     }
-    let parts = account_and_names(f.bytes);
-    if let Some(row) = first_row(rows_with(parts.account.is_some()), f.bytes) {
-        return Err(Fault {
-            code: Code::F06,
-            field,
-            row,
-        });
+    let Split { account, names } = account_and_names(f.bytes);
+    let has_account = account.is_some();
+    if let Some(row) = first_row(f.bytes, |n, row| is_bad_row(has_account, n, row)) {
+        return Err(fault_in(f.tag, Code::F06, row));
     }
-    if let Some(row) = first_row(RowCheck::LaterSlash, f.bytes) {
-        return Err(Fault {
-            code: Code::T12,
-            field,
-            row,
-        });
+    if let Some(row) = first_row(f.bytes, is_later_slash) {
+        return Err(fault_in(f.tag, Code::T12, row));
     }
-    if no_rows(parts.names) {
-        return Err(Fault {
-            code: Code::T13,
-            field,
-            row: 0,
-        });
+    if no_rows(names) {
+        return Err(fault_in(f.tag, Code::T13, 0));
     }
-    if is_bad_latvian(parts.account) {
-        return Err(Fault {
-            code: Code::T31,
-            field,
-            row: 1,
-        });
+    if is_bad_latvian(account) {
+        return Err(fault_in(f.tag, Code::T31, 1));
     }
-    Ok(Field::Party(parts.account, parts.names))
+    Ok(Field::Party(account, names))
 }
 
 // Field 50: the payer, with the letter K.

@@ -4,7 +4,6 @@ ghost use Rattle.std.specs.Option.{option_map};
 ghost use Rattle.fields.specs.Shapes.{part_of, account_in, line_in};
 
 use crate::shape::Field;
-use text::slices::front;
 
 impl<'a> Field<'a> {
     // The account, if the field gives one.
@@ -12,10 +11,8 @@ impl<'a> Field<'a> {
         ensures { option_map (λ x. x.now) result ≡ account_in (part_of self.entry) }
     {
         match self {
-            Field::Row(_) => None,
-            Field::Rows(_) => None,
             Field::Party(account, _) => account,
-            Field::Bic(_) => None,
+            _ => None,
         }
     }
 
@@ -24,10 +21,8 @@ impl<'a> Field<'a> {
         ensures { result.now ≡ line_in (part_of self.entry) }
     {
         match self {
-            Field::Row(row) => row,
-            Field::Rows(rows) => front(rows, 0),
-            Field::Party(_, rows) => front(rows, 0),
-            Field::Bic(bic) => bic,
+            Field::Row(line) | Field::Bic(line) => line,
+            Field::Rows(_) | Field::Party(..) => b"",
         }
     }
 }

@@ -4,14 +4,13 @@ ghost use Rattle.text.specs.Rows.{rows_of};
 ghost use Rattle.fields.specs.Run.{run_row, remittance_of, is_reason_code, reason_of};
 ghost use Rattle.fields.specs.Shapes.{seen};
 
-use crate::check::RowCheck;
-use crate::lines::{first_row, no_rows};
-use crate::lone::{first_of, judged};
+use crate::fault::fault_in;
+use crate::lines::{bad_line, first_row, no_rows};
 use crate::shape::Field;
 use cuts::tagged::Tagged;
 use faults::{Code, Fault};
 use text::class::Class;
-use text::slices::{begins, byte, skip};
+use text::rows::Rows;
 
 // The most rows of a remittance and of a reason.
 const REMITTANCE_ROWS: u64 = 4;
@@ -28,52 +27,43 @@ fn run_row(most: u64, bytes: &[u8]) -> Option<u64>
     if no_rows(bytes) {
         return Some(1);
     }
-    first_row(RowCheck::Lines(most), bytes)
+    first_row(bytes, |n, row| bad_line(most, n, row))
 }
 
 // Field 70: the remittance.
 pub fn remittance<'a>(f: Tagged<'a>) -> Result<Field<'a>, Fault>
     ensures { seen result ≡ remittance_of f.entry.tag.number (rows_of f.entry.bytes.now) }
 {
-    let at = run_row(REMITTANCE_ROWS, f.bytes);
-    judged(Field::Rows(f.bytes), Code::F06, f.tag.number, at)
+    if let Some(row) = run_row(REMITTANCE_ROWS, f.bytes) {
+        return Err(fault_in(f.tag, Code::F06, row));
+    }
+    Ok(Field::Rows(f.bytes))
 }
 
 fn is_reason_code(s: &[u8]) -> bool
     ensures { result ≡ is_reason_code s.now }
 {
-    s.len() == 3
-        && Class::Capital.has(byte(s, 0))
-        && Class::Digit.has(byte(s, 1))
-        && Class::Digit.has(byte(s, 2))
+    match s {
+        [letter, tens, ones] => {
+            Class::Capital.has(*letter) && Class::Digit.has(*tens) && Class::Digit.has(*ones)
+        }
+        _ => false,
+    }
 }
 
 // Field 72: the reason of a return.
 pub fn reason<'a>(f: Tagged<'a>) -> Result<Field<'a>, Fault>
     ensures { seen result ≡ reason_of f.entry.tag.number (rows_of f.entry.bytes.now) }
 {
-    let field = f.tag.number;
     if let Some(row) = run_row(REASON_ROWS, f.bytes) {
-        return Err(Fault {
-            code: Code::F06,
-            field,
-            row,
-        });
+        return Err(fault_in(f.tag, Code::F06, row));
     }
-    let first = first_of(f.bytes).row;
-    if !begins(first, REJECT) {
-        return Err(Fault {
-            code: Code::T27,
-            field,
-            row: 0,
-        });
-    }
-    if !is_reason_code(skip(first, REJECT.len())) {
-        return Err(Fault {
-            code: Code::T28,
-            field,
-            row: 0,
-        });
+    let first = Rows::new(f.bytes).next().unwrap_or(b"");
+    let code = first
+        .strip_prefix(REJECT)
+        .ok_or(fault_in(f.tag, Code::T27, 0))?;
+    if !is_reason_code(code) {
+        return Err(fault_in(f.tag, Code::T28, 0));
     }
     Ok(Field::Rows(f.bytes))
 }

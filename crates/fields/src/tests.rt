@@ -21,10 +21,8 @@ fn tagged<'a>(number: u8, letter: Option<u8>, bytes: &'a [u8]) -> Tagged<'a> {
 
 // The code and the row of a fault, or 0 and 0.
 fn at(read: Result<Field, Fault>) -> (u16, u64) {
-    match read {
-        Ok(_) => (0, 0),
-        Err(fault) => (fault.code.number(), fault.row),
-    }
+    read.err()
+        .map_or((0, 0), |fault| (fault.code.number(), fault.row))
 }
 
 #[test]

@@ -2,9 +2,10 @@
 ghost use Rattle.std.specs.Prelude.{◌≡◌};
 ghost use Rattle.text.specs.Rows.{rows_of};
 ghost use Rattle.fields.specs.Shapes.{seen};
-ghost use Rattle.fields.specs.Value.{date_in, currency_in, amount_in, is_value, bad_amount, over_limit, value_of, counted_of};
+ghost use Rattle.fields.specs.Value.{date_in, currency_in, amount_in, is_value, value_of, counted_of};
 
-use crate::lone::first_of;
+use crate::fault::fault_in;
+use crate::lone::lone;
 use crate::shape::Field;
 use crate::terms::Terms;
 use cuts::tagged::Tagged;
@@ -44,67 +45,24 @@ fn is_value(row: &[u8]) -> bool
         && is_amount_spelled(amount_in(row))
 }
 
-fn is_bad_amount(cents: Option<u64>) -> bool
-    ensures { result ≡ bad_amount cents }
-{
-    match cents {
-        None => true,
-        Some(c) => c == 0,
-    }
-}
-
-fn is_over_limit(cents: Option<u64>) -> bool
-    ensures { result ≡ over_limit cents }
-{
-    match cents {
-        None => false,
-        Some(c) => c > LIMIT,
-    }
-}
-
 // Field 32A: the value, at the day's terms.
 pub fn value<'a>(f: Tagged<'a>, terms: Terms) -> Result<Field<'a>, Fault>
     ensures { seen result ≡ value_of terms f.entry.tag.number (rows_of f.entry.bytes.now) }
 {
-    let field = f.tag.number;
-    let only = first_of(f.bytes);
-    if let Some(row) = only.fault(is_value(only.row)) {
-        return Err(Fault {
-            code: Code::F06,
-            field,
-            row,
-        });
+    let row = lone(f.bytes, is_value).map_err(|row| fault_in(f.tag, Code::F06, row))?;
+    if !same(date_in(row), &terms.day) {
+        return Err(fault_in(f.tag, Code::T09, 0));
     }
-    if !same(date_in(only.row), &terms.day) {
-        return Err(Fault {
-            code: Code::T09,
-            field,
-            row: 0,
-        });
+    if !same(currency_in(row), &terms.currency) {
+        return Err(fault_in(f.tag, Code::T10, 0));
     }
-    if !same(currency_in(only.row), &terms.currency) {
-        return Err(Fault {
-            code: Code::T10,
-            field,
-            row: 0,
-        });
+    let cents = amount_in_cents(amount_in(row))
+        .filter(|c| *c != 0)
+        .ok_or(fault_in(f.tag, Code::T11, 0))?;
+    if cents > LIMIT {
+        return Err(fault_in(f.tag, Code::T29, 0));
     }
-    let cents = amount_in_cents(amount_in(only.row));
-    if is_bad_amount(cents) {
-        return Err(Fault {
-            code: Code::T11,
-            field,
-            row: 0,
-        });
-    }
-    if is_over_limit(cents) {
-        return Err(Fault {
-            code: Code::T29,
-            field,
-            row: 0,
-        });
-    }
-    Ok(Field::Row(only.row))
+    Ok(Field::Row(row))
 }
 
 // What a row counts in its file's sum: its amount whatever the date, the currency and the limit, or nothing.
@@ -114,8 +72,5 @@ pub fn counted(row: &[u8]) -> u64
     if !is_value(row) {
         return 0;
     }
-    match amount_in_cents(amount_in(row)) {
-        None => 0,
-        Some(cents) => cents,
-    }
+    amount_in_cents(amount_in(row)).unwrap_or(0)
 }

@@ -1,15 +1,15 @@
 -- The receiver of a header that passes: a house, not suspended, and not the sender. Assumes nothing.
-use Rattle.std.proofs.Common.{◌≡◌, ℕ, suc, Bool, true, false, cond, not, ◌||◌, eqb, List, [], ◌∷◌, is_some, Some, None, Ok, Err, Option, Result, refl, ap, subst, arith}
+use Rattle.std.proofs.Common.{◌≡◌, ℕ, suc, Bool, true, false, cond, not, ◌||◌, eqb, List, [], ◌∷◌, is_some, Some, None, Ok, Err, Option, Result, refl, ap, subst}
 use Rattle.std.specs.Option.{option_map}
 use Rattle.std.specs.Str.{bytes_eq}
 use Rattle.std.proofs.lemmas.Bool.{or_parts, eqb-false, false≢true}
 use Rattle.faults.specs.declared.code.Code.TheVariants.{F01}
 use Rattle.faults.specs.declared.code.Fault.{Fault}
-use Rattle.frames.specs.Layout.{Parts, Named, blocks_of, receiver_of}
+use Rattle.frames.specs.Layout.{Parts, Named, in_branch, blocks_of, receiver_of}
 use Rattle.keys.specs.Held.{bic_text}
 use Rattle.settings.specs.Places.{bic_at, suspended_at}
 use Rattle.settings.specs.declared.house.House.{House}
-use Rattle.headers.specs.Headers.{in_branch, place_named, fit, receiver_at, or_first, HeaderParts, header_faults, header_in, header_of}
+use Rattle.headers.specs.Headers.{place_named, fit, receiver_at, or_first, HeaderParts, header_faults, header_in, header_of}
 use Rattle.headers.specs.Tables.{first_of}
 use Rattle.headers.proofs.Tables.{ok_parts, none_fails}
 
@@ -17,11 +17,11 @@ use Rattle.headers.proofs.Tables.{ok_parts, none_fails}
 house_by : (h : House) (hs : List House) (place : ℕ) (b : Bool) (o : Option ℕ) → ((n : ℕ) → o ≡ Some n → is_some (bic_at hs n) ≡ true)
     → cond b (Some 0) (option_map (λ n. suc n) o) ≡ Some place → is_some (bic_at (h ∷ hs) place) ≡ true
 house_by h hs place true o later e = let z : 0 ≡ place = cc in subst (λ n. is_some (bic_at (h ∷ hs) n) ≡ true) z refl
-house_by h hs place false None later e = absurd (let z : ◌≡◌ {A = ℕ} 0 1 = cc in omega arith)
+house_by h hs place false None later e = absurd (cc)
 house_by h hs place false (Some n) later e = let z : suc n ≡ place = cc in subst (λ m. is_some (bic_at (h ∷ hs) m) ≡ true) z (later n refl)
 
 house_at : (t : List ℕ) (hs : List House) (place : ℕ) → place_named t hs ≡ Some place → is_some (bic_at hs place) ≡ true
-house_at t [] place e = absurd (let z : ◌≡◌ {A = ℕ} 0 1 = cc in omega arith)
+house_at t [] place e = absurd (cc)
 house_at t (h ∷ hs) place e = house_by h hs place (bytes_eq (bic_text h.bic) t) (place_named t hs) (λ n p. house_at t hs n p) e
 
 -- who may receive: a house that is not suspended and not the sender
@@ -53,12 +53,12 @@ receives hs sender n = fits_in_branch hs sender n.bic (in_branch n)
 
 passing : (b : Bool) (f : Fault) → cond (not b) (Some f) None ≡ None → b ≡ true
 passing true f h = refl
-passing false f h = absurd (let z : ◌≡◌ {A = ℕ} 0 1 = cc in omega arith)
+passing false f h = absurd (cc)
 
 by_blocks : (digits : List ℕ) (hs : List House) (sender : ℕ) (h : HeaderParts) (b : Option Parts)
     → ◌≡◌ {A = Result HeaderParts Fault} (elim b [ None ↦ Err (record { code = F01; field = 0; row = 0 }) | Some p ↦ header_in digits hs sender p ]) (Ok h)
     → Receives hs sender h.receiver
-by_blocks digits hs sender h None e = absurd (let z : ◌≡◌ {A = ℕ} 0 1 = cc in omega arith)
+by_blocks digits hs sender h None e = absurd (cc)
 by_blocks digits hs sender h (Some p) e =
     let n = receiver_of p.second in
     let q = ok_parts (first_of (header_faults digits hs sender p)) (record { receiver = or_first (receiver_at hs sender n); bic = n.bic; text = p.text }) h e in

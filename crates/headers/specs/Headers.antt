@@ -1,22 +1,15 @@
 -- The header of a message: who sends it, of which type it is, who receives it.
-use Rattle.std.specs.Prelude.{ℕ, suc, Bool, false, cond, not, ◌&&◌, ◌||◌, List, [], ◌∷◌, is_some, Some, None, Err, codes, Option, Result, ◌==◌}
+use Rattle.std.specs.Prelude.{ℕ, suc, Bool, false, cond, not, ◌&&◌, ◌||◌, List, [], ◌∷◌, is_some, Some, None, Err, Option, Result, ◌==◌}
 use Rattle.std.specs.Option.{option_map}
 use Rattle.std.specs.Str.{bytes_eq}
 use Rattle.faults.specs.declared.code.Code.TheVariants.{F01, H04, H05, H06}
 use Rattle.faults.specs.declared.code.Fault.{Fault}
-use Rattle.frames.specs.Layout.{Parts, Named, blocks_of, sender_of, type_of, receiver_of}
+use Rattle.frames.specs.Layout.{Parts, Named, in_branch, blocks_of, sender_of, type_of, receiver_of}
 use Rattle.keys.specs.Held.{bic_text}
 use Rattle.keys.specs.declared.bic.Bic.{Bic}
 use Rattle.settings.specs.Places.{bic_at, suspended_at}
 use Rattle.settings.specs.declared.house.House.{House}
 use Rattle.headers.specs.Tables.{failing, first_of, unless}
-
--- the branch of every address
-abbrev pub branch : List ℕ
-branch = codes "XXX"
-
-abbrev pub in_branch : Named → Bool
-in_branch n = bytes_eq n.branch branch
 
 -- the address is that of the house that sends
 abbrev pub is_sender : Option Bic → Named → Bool

@@ -3,7 +3,8 @@
 
 #![tactic(auto)]
 
-mod address;
 mod header;
+mod sender;
 
 pub use header::Header;
+pub use sender::Sender;

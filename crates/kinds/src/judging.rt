@@ -9,8 +9,7 @@ use crate::kind::Kind;
 use crate::reading::{read_text, terms_of};
 use faults::Fault;
 use fields::value::counted;
-use headers::Header;
-use settings::Settings;
+use headers::{Header, Sender};
 
 // A message that passes: the receiver's place, the reference, the amount in cents, and what its kind holds.
 #[derive(Drop)]
@@ -21,33 +20,22 @@ pub struct Passed<'a, C> {
     pub contents: C,
 }
 
-fn verdict<'a, K: Kind<'a>>(
-    settings: &Settings,
-    sender: usize,
+// What comes of a content that the house sends as a message of the kind. One that passes goes to another house, has a good
+// reference, and an amount within the limit.
+pub fn judge<'a, K: Kind<'a>>(
+    sender: Sender,
     content: &'a [u8],
 ) -> Result<Passed<'a, K::Contents>, Fault>
-    ensures { seen_passed K.Kind.parts result ≡ verdict_of K.Kind.digits K.Kind.slot K.Kind.reads settings.now sender content.now }
+    ensures verdict { seen_passed K.Kind.parts result ≡ verdict_of K.Kind.digits K.Kind.slot K.Kind.reads sender.entry.settings.now sender.entry.place content.now }
+    ensures payable { PayableIf (houses_of sender.entry.settings.now) sender.entry.place (seen_passed K.Kind.parts result) }
 {
-    let header = Header::read(K::type_digits(), settings, sender, content)?;
-    let contents = read_text::<K>(header, terms_of(settings))?;
+    K::laws();
+    let header = Header::read(K::type_digits(), sender, content)?;
+    let contents = read_text::<K>(header, terms_of(sender.settings))?;
     Ok(Passed {
         receiver: header.receiver,
         reference: K::reference(&contents),
         amount: counted(K::value(&contents)),
         contents,
     })
-}
-
-// What comes of a content that the house at the sender's place sends as a message of the kind. One that passes goes to another
-// house, has a good reference, and an amount within the limit.
-pub fn judge<'a, K: Kind<'a>>(
-    settings: &Settings,
-    sender: usize,
-    content: &'a [u8],
-) -> Result<Passed<'a, K::Contents>, Fault>
-    ensures verdict { seen_passed K.Kind.parts result ≡ verdict_of K.Kind.digits K.Kind.slot K.Kind.reads settings.now sender content.now }
-    ensures payable { PayableIf (houses_of settings.now) sender (seen_passed K.Kind.parts result) }
-{
-    K::laws();
-    verdict::<K>(settings, sender, content)
 }

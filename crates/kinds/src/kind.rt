@@ -31,6 +31,7 @@ pub trait Kind<'a> {
     fn type_digits() -> [u8; 3]
         ensures { result ≡ digits };
 
+    // the terms are the day's, and the receiver the message's: they go together here alone
     fn read(walk: &mut Walk<'a>, terms: Terms, receiver: &'a [u8]) -> Result<Self::Contents, Fault>
         ensures { seen_as parts result ≡ reads terms receiver.now (to_come walk.old) };
 

@@ -12,7 +12,7 @@ use headers::Header;
 use orders::Walk;
 use settings::Settings;
 
-// What the settings ask of every value.
+// What the settings ask of every value. No `From`, since neither type is of this crate.
 pub(crate) fn terms_of(settings: &Settings) -> Terms
     ensures { result ≡ terms_of settings.now }
 {
@@ -31,11 +31,7 @@ pub(crate) fn read_text<'a, K: Kind<'a>>(
 {
     let mut walk = Walk::of(header.text);
     if walk.is_done() {
-        return Err(Fault {
-            code: Code::F04,
-            field: 0,
-            row: 0,
-        });
+        return Err(Fault::of_message(Code::F04));
     }
     K::read(&mut walk, terms, header.bic)
 }

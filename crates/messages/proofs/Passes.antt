@@ -16,8 +16,8 @@ use Rattle.messages.specs.Readings.{reference_read, value_read, fault_in, part_i
 
 single_passes : (b : Bool) (w : Option ℕ) (n : ℕ) (q : Part) → fault_in (Some (answer (first_fault n ((F06, cond b w (Some 1)) ∷ [])) q)) ≡ None
     → (b ≡ true) × (answer (first_fault n ((F06, cond b w (Some 1)) ∷ [])) q ≡ Ok q)
-single_passes false w n q h = absurd (let z : ◌≡◌ {A = ℕ} 0 1 = cc in omega arith)
-single_passes true (Some k) n q h = absurd (let z : ◌≡◌ {A = ℕ} 0 1 = cc in omega arith)
+single_passes false w n q h = absurd (cc)
+single_passes true (Some k) n q h = absurd (cc)
 single_passes true None n q h = (refl, refl)
 
 pub reference_good : (x : Option Parts) → is_some x ≡ true → fault_in (option_map reference_read x) ≡ None → is_reference (row_in (part_in (option_map reference_read x))) ≡ true
@@ -32,12 +32,12 @@ value_passes : (v : Bool) (w : Option ℕ) (b c z o : Bool) (n : ℕ) (q : Part)
     → fault_in (Some (answer (first_fault n ((F06, cond v w (Some 1)) ∷ (T09, when b 0) ∷ (T10, when c 0) ∷ (T11, when z 0) ∷ (T29, when o 0) ∷ [])) q)) ≡ None
     → (v ≡ true) × (z ≡ false) × (o ≡ false)
     × (answer (first_fault n ((F06, cond v w (Some 1)) ∷ (T09, when b 0) ∷ (T10, when c 0) ∷ (T11, when z 0) ∷ (T29, when o 0) ∷ [])) q ≡ Ok q)
-value_passes false w b c z o n q h = absurd (let z : ◌≡◌ {A = ℕ} 0 1 = cc in omega arith)
-value_passes true (Some k) b c z o n q h = absurd (let z : ◌≡◌ {A = ℕ} 0 1 = cc in omega arith)
-value_passes true None true c z o n q h = absurd (let z : ◌≡◌ {A = ℕ} 0 1 = cc in omega arith)
-value_passes true None false true z o n q h = absurd (let z : ◌≡◌ {A = ℕ} 0 1 = cc in omega arith)
-value_passes true None false false true o n q h = absurd (let z : ◌≡◌ {A = ℕ} 0 1 = cc in omega arith)
-value_passes true None false false false true n q h = absurd (let z : ◌≡◌ {A = ℕ} 0 1 = cc in omega arith)
+value_passes false w b c z o n q h = absurd (cc)
+value_passes true (Some k) b c z o n q h = absurd (cc)
+value_passes true None true c z o n q h = absurd (cc)
+value_passes true None false true z o n q h = absurd (cc)
+value_passes true None false false true o n q h = absurd (cc)
+value_passes true None false false false true n q h = absurd (cc)
 value_passes true None false false false false n q h = (refl, refl, refl, refl)
 
 positive : (k : ℕ) → (k ≡ 0 → ⊥) → 1 ≤ k

@@ -1,5 +1,5 @@
 -- Payments and returns that pass are proper. Assumes nothing.
-use Rattle.std.proofs.Common.{◌≡◌, ℕ, zero, suc, Bool, true, false, cond, ◌||◌, eqb, List, [], ◌∷◌, ◌++◌, map, length, get_or, is_some, Some, None, Ok, Option, Result, sym, refl, subst, arith}
+use Rattle.std.proofs.Common.{◌≡◌, ℕ, zero, suc, Bool, true, false, cond, ◌||◌, eqb, List, [], ◌∷◌, ◌++◌, map, length, get_or, is_some, Some, None, Ok, Option, Result, sym, refl, subst}
 use Rattle.std.proofs.lemmas.Bool.{and_parts, false≢true}
 use Rattle.cuts.specs.Cuts.{Parts}
 use Rattle.faults.specs.declared.code.Fault.{Fault}
@@ -29,7 +29,7 @@ there_at (s ∷ ss) (p ∷ ps) (suc i) c m = there_at ss ps i (and_parts (s.may_
 
 by_order : (reads : List (Option Parts) → Result (List (Option Part)) Fault) (order : List Slot) (fs : List Parts) (qs : List (Option Part)) (b : Bool) → in_order order fs ≡ b
     → in_slots reads (cond b (Some (arranged order fs)) None) ≡ Ok qs → (complete order (arranged order fs) ≡ true) × (reads (arranged order fs) ≡ Ok qs)
-by_order reads order fs qs false e h = absurd (let z : ◌≡◌ {A = ℕ} 0 1 = cc in omega arith)
+by_order reads order fs qs false e h = absurd (cc)
 by_order reads order fs qs true e h = ((and_parts (complete order (arranged order fs)) (eqb (length (left_over order fs)) 0) e).0, h)
 
 -- what is read was in order

@@ -2,23 +2,26 @@
 use Rattle.std.specs.Prelude.{List, [], ◌∷◌, Some, Option}
 use Rattle.std.specs.Option.{option_map}
 use Rattle.cuts.specs.Cuts.{Parts}
+use Rattle.cuts.specs.Fields.{parts_in}
+use Rattle.cuts.specs.declared.tagged.Tagged.{Tagged}
 use Rattle.fields.specs.Shapes.{Part, part_of}
-use Rattle.orders.specs.ToCome.{parts_in}
-use Rattle.messages.specs.declared.payment.LaidPayment.{LaidPayment}
-use Rattle.messages.specs.declared.payment.PaymentContents.{PaymentContents}
+use Rattle.fields.specs.declared.shape.Field.{Field}
+use Rattle.messages.specs.declared.payment.PaymentParts.{PaymentParts}
 use Rattle.messages.specs.declared.payment.PaymentStart.{PaymentStart}
 
--- the fields slot by slot
-abbrev pub laid_payment : LaidPayment → List (Option Parts)
-laid_payment l =
-    Some (parts_in l.reference) ∷ Some (parts_in l.operation) ∷ option_map parts_in l.instruction ∷ Some (parts_in l.value)
-    ∷ Some (parts_in l.payer) ∷ option_map parts_in l.bank ∷ Some (parts_in l.payee) ∷ option_map parts_in l.remittance ∷ Some (parts_in l.charges) ∷ []
+-- the fields slot by slot, each seen so
+abbrev pub payment_slots : {T X : Type 0} → (T → X) → PaymentParts T → List (Option X)
+payment_slots view p =
+    Some (view p.reference) ∷ Some (view p.operation) ∷ option_map view p.instruction ∷ Some (view p.value)
+    ∷ Some (view p.payer) ∷ option_map view p.bank ∷ Some (view p.payee) ∷ option_map view p.remittance ∷ Some (view p.charges) ∷ []
+
+-- the fields as they stand in the text
+abbrev pub laid_payment : PaymentParts Tagged → List (Option Parts)
+laid_payment l = payment_slots parts_in l
 
 -- the fields as they were read
-abbrev pub payment_in : PaymentContents → List (Option Part)
-payment_in c =
-    Some (part_of c.reference) ∷ Some (part_of c.operation) ∷ option_map part_of c.instruction ∷ Some (part_of c.value)
-    ∷ Some (part_of c.payer) ∷ option_map part_of c.bank ∷ Some (part_of c.payee) ∷ option_map part_of c.remittance ∷ Some (part_of c.charges) ∷ []
+abbrev pub payment_in : PaymentParts Field → List (Option Part)
+payment_in c = payment_slots part_of c
 
 -- the first four of them
 abbrev pub start_in : PaymentStart → List (Option Part)

@@ -6,7 +6,8 @@ use Rattle.faults.specs.declared.code.Code.TheVariants.{F05}
 use Rattle.faults.specs.declared.code.Fault.{Fault}
 use Rattle.fields.specs.Party.{party_of}
 use Rattle.fields.specs.Run.{remittance_of, reason_of}
-use Rattle.fields.specs.Shapes.{Part, row, rows, party, bic}
+use Rattle.fields.specs.Shapes as Shapes
+use Rattle.fields.specs.Shapes.{Part}
 use Rattle.fields.specs.Single.{single, is_operation, is_charge, bank_of}
 use Rattle.fields.specs.Value.{value_of}
 use Rattle.fields.specs.declared.terms.Terms.{Terms}
@@ -62,10 +63,7 @@ part_in (Some (Err f)) = None
 -- the account that a party has
 abbrev pub account_in : Option Part → Option (List ℕ)
 account_in None = None
-account_in (Some (row r)) = None
-account_in (Some (rows rs)) = None
-account_in (Some (party a rs)) = a
-account_in (Some (bic b)) = None
+account_in (Some p) = Shapes.account_in p
 
 -- what is read of fields that stand in their slots; fields out of order are F05
 abbrev pub in_slots : (List (Option Parts) → Result (List (Option Part)) Fault) → Option (List (Option Parts)) → Result (List (Option Part)) Fault

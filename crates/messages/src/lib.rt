@@ -10,5 +10,5 @@ mod readings;
 mod returned;
 mod slots;
 
-pub use payment::{Payment, PaymentContents};
-pub use returned::{Return, ReturnContents};
+pub use payment::{Payment, PaymentContents, PaymentParts};
+pub use returned::{Return, ReturnContents, ReturnParts};

@@ -1,9 +1,9 @@
 // A payment: money that a house sends for its client.
-ghost use Rattle.std.specs.Prelude.{◌≡◌, ◌++◌, map, None, codes, slice_index_or};
+ghost use Rattle.std.specs.Prelude.{◌≡◌, ◌++◌, map, codes};
 ghost use Rattle.std.specs.Option.{option_map};
 ghost use Rattle.fields.specs.Shapes.{part_of};
 ghost use Rattle.headers.specs.Tables.{first_of, unless};
-ghost use Rattle.kinds.specs.Contents.{row_in, seen_as};
+ghost use Rattle.kinds.specs.Contents.{seen_as};
 ghost use Rattle.kinds.specs.Sound.{Sound};
 ghost use Rattle.orders.specs.Orders.{placed};
 ghost use Rattle.orders.specs.ToCome.{to_come};
@@ -12,7 +12,7 @@ ghost use Rattle.messages.specs.Payments.{later_readings, later_faults, payment_
 ghost use Rattle.messages.specs.Readings.{part_in};
 ghost use Rattle.messages.specs.Slots.{payment_order};
 
-use crate::last::{last_fault, row_of};
+use crate::last::check_last;
 use crate::readings::{
     bank_if_there, charges, instruction_if_there, operation, payee, payer, reference,
     remittance_if_there, value,
@@ -27,75 +27,42 @@ use fields::terms::Terms;
 use kinds::Kind;
 use orders::Walk;
 
-// What a payment holds.
+// The fields of a payment.
 #[derive(Clone, Copy)]
-pub struct PaymentContents<'a> {
-    pub reference: Field<'a>,
-    pub operation: Field<'a>,
-    pub instruction: Option<Field<'a>>,
-    pub value: Field<'a>,
-    pub payer: Field<'a>,
-    pub bank: Option<Field<'a>>,
-    pub payee: Field<'a>,
-    pub remittance: Option<Field<'a>>,
-    pub charges: Field<'a>,
+pub struct PaymentParts<T> {
+    pub reference: T,
+    pub operation: T,
+    pub instruction: Option<T>,
+    pub value: T,
+    pub payer: T,
+    pub bank: Option<T>,
+    pub payee: T,
+    pub remittance: Option<T>,
+    pub charges: T,
 }
+
+// What a payment holds.
+pub type PaymentContents<'a> = PaymentParts<Field<'a>>;
 
 // The fields of a payment in their slots.
-#[derive(Clone, Copy)]
-struct LaidPayment<'a> {
-    reference: Tagged<'a>,
-    operation: Tagged<'a>,
-    instruction: Option<Tagged<'a>>,
-    value: Tagged<'a>,
-    payer: Tagged<'a>,
-    bank: Option<Tagged<'a>>,
-    payee: Tagged<'a>,
-    remittance: Option<Tagged<'a>>,
-    charges: Tagged<'a>,
-}
-
-fn lay_out<'a>(walk: &mut Walk<'a>) -> Option<LaidPayment<'a>>
+fn lay_out<'a>(walk: &mut Walk<'a>) -> Option<PaymentParts<Tagged<'a>>>
     ensures { option_map laid_payment result ≡ placed payment_order (to_come walk.old) }
 {
-    let Some(reference) = walk.take(REFERENCE) else {
-        return None;
+    let laid = PaymentParts {
+        reference: walk.take(REFERENCE)?,
+        operation: walk.take(OPERATION)?,
+        instruction: walk.take(INSTRUCTION),
+        value: walk.take(VALUE)?,
+        payer: walk.take(PAYER)?,
+        bank: walk.take(BANK),
+        payee: walk.take(PAYEE)?,
+        remittance: walk.take(REMITTANCE),
+        charges: walk.take(CHARGES)?,
     };
-    let Some(operation) = walk.take(OPERATION) else {
-        return None;
-    };
-    let instruction = walk.take(INSTRUCTION);
-    let Some(value) = walk.take(VALUE) else {
-        return None;
-    };
-    let Some(payer) = walk.take(PAYER) else {
-        return None;
-    };
-    let bank = walk.take(BANK);
-    let Some(payee) = walk.take(PAYEE) else {
-        return None;
-    };
-    let remittance = walk.take(REMITTANCE);
-    let Some(charges) = walk.take(CHARGES) else {
-        return None;
-    };
-    if !walk.is_done() {
-        return None;
-    }
-    Some(LaidPayment {
-        reference,
-        operation,
-        instruction,
-        value,
-        payer,
-        bank,
-        payee,
-        remittance,
-        charges,
-    })
+    walk.is_done().then_some(laid)
 }
 
-// The first fields of a payment, up to the value.
+// The first fields of a payment, up to the value: one function of nine checks would be no plainer than two.
 #[derive(Clone, Copy)]
 struct PaymentStart<'a> {
     reference: Field<'a>,
@@ -106,7 +73,7 @@ struct PaymentStart<'a> {
 
 // What is read from the payer on, after the first fields.
 fn read_later<'a>(
-    laid: LaidPayment<'a>,
+    laid: PaymentParts<Tagged<'a>>,
     receiver: &'a [u8],
     start: PaymentStart<'a>,
 ) -> Result<PaymentContents<'a>, Fault>
@@ -117,10 +84,8 @@ fn read_later<'a>(
     let payee = payee(laid.payee)?;
     let remittance = remittance_if_there(laid.remittance)?;
     let charges = charges(laid.charges)?;
-    if let Some(fault) = last_fault(start.instruction, bank, payee, receiver) {
-        return Err(fault);
-    }
-    Ok(PaymentContents {
+    check_last(start.instruction, bank, payee, receiver)?;
+    Ok(PaymentParts {
         reference: start.reference,
         operation: start.operation,
         instruction: start.instruction,
@@ -134,7 +99,7 @@ fn read_later<'a>(
 }
 
 fn read_laid<'a>(
-    laid: LaidPayment<'a>,
+    laid: PaymentParts<Tagged<'a>>,
     terms: Terms,
     receiver: &'a [u8],
 ) -> Result<PaymentContents<'a>, Fault>
@@ -151,23 +116,6 @@ fn read_laid<'a>(
         value,
     };
     read_later(laid, receiver, start)
-}
-
-fn read_payment<'a>(
-    walk: &mut Walk<'a>,
-    terms: Terms,
-    receiver: &'a [u8],
-) -> Result<PaymentContents<'a>, Fault>
-    ensures { seen_as payment_in result ≡ payment_read terms receiver.now (to_come walk.old) }
-{
-    let Some(laid) = lay_out(walk) else {
-        return Err(Fault {
-            code: Code::F05,
-            field: 0,
-            row: 0,
-        });
-    };
-    read_laid(laid, terms, receiver)
 }
 
 // The kind of a payment.
@@ -196,22 +144,17 @@ impl<'a> Kind<'a> for Payment {
         walk: &mut Walk<'a>,
         terms: Terms,
         receiver: &'a [u8],
-    ) -> Result<PaymentContents<'a>, Fault>
-        ensures { seen_as payment_in result ≡ payment_read terms receiver.now (to_come walk.old) }
-    {
-        read_payment(walk, terms, receiver)
+    ) -> Result<PaymentContents<'a>, Fault> {
+        let laid = lay_out(walk).ok_or(Fault::of_message(Code::F05))?;
+        read_laid(laid, terms, receiver)
     }
 
-    fn reference(contents: &PaymentContents<'a>) -> &'a [u8]
-        ensures { result.now ≡ row_in (slice_index_or (payment_in contents.now) 0 None) }
-    {
-        row_of(contents.reference)
+    fn reference(contents: &PaymentContents<'a>) -> &'a [u8] {
+        contents.reference.line()
     }
 
-    fn value(contents: &PaymentContents<'a>) -> &'a [u8]
-        ensures { result.now ≡ row_in (slice_index_or (payment_in contents.now) 3 None) }
-    {
-        row_of(contents.value)
+    fn value(contents: &PaymentContents<'a>) -> &'a [u8] {
+        contents.value.line()
     }
 
     fn laws()

@@ -1,5 +1,20 @@
-// The slots of the kinds' orders of fields.
+// The slots of the kinds' orders of fields, each written out, since a constant calls no function.
+ghost use Rattle.std.specs.Prelude.{◌≡◌};
+
+use faults::{Code, Fault};
 use orders::{Lettering, Slot};
+
+// The fault of the field in the slot, at no row in particular. Fields have the like by a tag and a row; one for both would take the three
+// numbers that it is made of.
+pub(crate) fn fault_in(slot: Slot, code: Code) -> Fault
+    ensures { result ≡ record { code = code; field = slot.number; row = 0 } }
+{
+    Fault {
+        code,
+        field: slot.number,
+        row: 0,
+    }
+}
 
 pub(crate) const REFERENCE: Slot = Slot {
     number: 20,

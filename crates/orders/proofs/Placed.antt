@@ -1,7 +1,7 @@
 -- Fields that are placed in an order of slots.
-use Rattle.std.proofs.Common.{◌≡◌, Bool, true, false, cond, eqb, List, [], ◌∷◌, ◌++◌, length, Some, None, Option, sym, refl, ap, ◌∙◌, arith}
+use Rattle.std.proofs.Common.{◌≡◌, Bool, true, false, cond, eqb, List, [], ◌∷◌, ◌++◌, length, Some, None, Option, sym, refl, ap, ◌∙◌}
 use Rattle.std.proofs.lemmas.Bool.{and_parts, and_from, eqb-true}
-use Rattle.std.proofs.lemmas.List.{append-nil}
+use Rattle.std.proofs.lemmas.List.{append-nil, nil_from_length}
 use Rattle.std.proofs.lemmas.Option.{cond_some}
 use Rattle.cuts.specs.Cuts.{Parts}
 use Rattle.orders.specs.declared.slot.Slot.{Slot}
@@ -33,15 +33,11 @@ fit [] fs = refl
 fit (s ∷ ss) [] = fit ss []
 fit (s ∷ ss) (f ∷ fs) = fit_by s f ss fs (fits s f.tag) refl (fit ss fs) (fit ss (f ∷ fs))
 
-none : {A : Type 0} (xs : List A) → length xs ≡ 0 → xs ≡ []
-none [] e = refl
-none (x ∷ xs) e = absurd (omega arith)
-
 pub order_law : OrderLaw
 order_law order fs ps h =
     let p = cond_some {A = List (Option Parts)} (in_order order fs) (arranged order fs) ps h in
     let q = and_parts (complete order (arranged order fs)) (eqb (length (left_over order fs)) 0) p.0 in
-    let all : left_over order fs ≡ [] = none (left_over order fs) (eqb-true (length (left_over order fs)) 0 q.1) in
+    let all : left_over order fs ≡ [] = nil_from_length (left_over order fs) (eqb-true (length (left_over order fs)) 0 q.1) in
     let at : standing_in (arranged order fs) ≡ fs =
     sym (append-nil (standing_in (arranged order fs))) ∙ ap (λ l. standing_in (arranged order fs) ++ l) (sym all) ∙ stands order fs in
     (ap standing_in (sym p.1) ∙ at, ap (each_fits order) (sym p.1) ∙ fit order fs, ap (complete order) (sym p.1) ∙ q.0)

@@ -1,22 +1,22 @@
 -- What a walk begins with: the fields of a formed text, of which there are some. Assumes nothing.
-use Rattle.std.proofs.Common.{◌≡◌, ℕ, suc, Bool, true, false, cond, not, eqb, List, [], ◌∷◌, length, Some, None, Option, sym, refl, ap, ◌∙◌, arith}
-use Rattle.std.proofs.lemmas.Bool.Decides.{nat_tests}
+use Rattle.std.proofs.Common.{◌≡◌, ℕ, Bool, true, false, cond, not, eqb, List, [], ◌∷◌, length, Some, None, Option, sym, refl, ap, ◌∙◌}
+use Rattle.std.proofs.Math.Dec.{eqb-suc-zero}
 use Rattle.std.proofs.lemmas.Bool.{and_parts, cond-true}
 use Rattle.text.specs.Rows.{rows_of}
 use Rattle.text.specs.Tags.{is_tag}
 use Rattle.text.specs.Texts.{row_formed, rows_formed, opens, good, formed}
 use Rattle.cuts.proofs.Puts.{first_tag}
-use Rattle.cuts.specs.Cuts.{Parts, fields_of}
+use Rattle.cuts.specs.Cuts.{fields_of}
+use Rattle.cuts.specs.Fields.{parts_in, fields_left}
+use Rattle.cuts.specs.declared.tagged.Fields.{Fields}
 use Rattle.cuts.specs.declared.tagged.Tagged.{Tagged}
+use Rattle.std.specs.Iterator.{YieldsFirstBy}
 use Rattle.orders.specs.Orders.{fields_in}
 use Rattle.orders.specs.ToCome.{with_next}
 
-there : (n : ℕ) → eqb (suc n) 0 ≡ false
-there n = grind (arith, nat_tests)
-
 some_rows : (rs : List (List ℕ)) → rows_formed rs ≡ true → opens rs ≡ true → eqb (length (fields_of rs)) 0 ≡ false
 some_rows [] f o = sym o
-some_rows (r ∷ rs) f o = ap (λ l. eqb (length l) 0) (cond-true (is_tag r) _ _ (first_tag r rs (and_parts (row_formed r) (rows_formed rs) f).0 o)) ∙ there (length (fields_of rs))
+some_rows (r ∷ rs) f o = ap (λ l. eqb (length l) 0) (cond-true (is_tag r) _ _ (first_tag r rs (and_parts (row_formed r) (rows_formed rs) f).0 o)) ∙ eqb-suc-zero (length (fields_of rs))
 
 by_form : (t : List ℕ) (b : Bool) → formed t ≡ b → eqb (length (cond b (fields_of (rows_of t)) [])) 0 ≡ not b
 by_form t false e = refl
@@ -32,7 +32,6 @@ fields_if t true = refl
 fields_if t false = refl
 
 -- the field at hand before those that are left is what was to come
-pub with_next_is : (r : Option Tagged) (fs later : List Parts)
-    → fs ≡ elim r [ None ↦ [] | Some f ↦ record { tag = f.tag; rows = rows_of f.bytes.now } ∷ later ] → with_next r later ≡ fs
-with_next_is None fs later e = sym e
-with_next_is (Some f) fs later e = sym e
+pub with_next_is : (r : Option Tagged) (s t : Fields) → YieldsFirstBy parts_in fields_left s r t → with_next r (fields_left t) ≡ fields_left s
+with_next_is None s t e = sym e.0
+with_next_is (Some f) s t e = sym e

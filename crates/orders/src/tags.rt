@@ -8,11 +8,10 @@ use text::tag::Tag;
 fn is_lettered(letter: Lettering, found: Option<u8>) -> bool
     ensures { result ≡ lettered letter found }
 {
-    match (letter, found) {
-        (Lettering::Any, _) => true,
-        (Lettering::Bare, None) => true,
-        (Lettering::Letter(asked), Some(l)) => l == asked,
-        _ => false,
+    match letter {
+        Lettering::Any => true,
+        Lettering::Bare => found.is_none(),
+        Lettering::Letter(asked) => found == Some(asked),
     }
 }
 

@@ -1,12 +1,12 @@
 use Rattle.std.proofs.Common.{◌≡◌, ◌+◌, ◌≤◌, length}
 use Rattle.text.specs.Rows.{rows_of}
-use Rattle.fields.specs.Lines.{first_row, fails}
+use Rattle.fields.specs.Lines.{first_row}
 use Rattle.fields.proofs.lines.first_row.Given as goal
 
-abbrev pub invariant-loop-row : goal.invariant-loop-row
-invariant-loop-row l =
-    (first_row (fails l.check) l.n (rows_of l.rows.rest.now) ≡ first_row (fails l.check) 1 (rows_of l.bytes))
-    × (l.n + length l.rows.rest.now ≤ 1 + length l.bytes)
-
-abbrev pub decreases-loop-row : goal.decreases-loop-row
-decreases-loop-row l = length l.rows.rest.now
+abbrev pub invariant-loop-n : goal.invariant-loop-n
+invariant-loop-n g l = record {
+  callable : (goal.iterator-loop-n g).can_next l.n-iterator;
+  ends : (goal.iterator-loop-n g).is_finite l.n-iterator;
+  later : first_row g.bad l.n-iterator.a.start (rows_of l.n-iterator.b.rest.now) ≡ first_row g.bad 1 (rows_of l.bytes);
+  few : l.n-iterator.a.start + length l.n-iterator.b.rest.now ≤ 1 + length l.bytes;
+}

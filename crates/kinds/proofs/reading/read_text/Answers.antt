@@ -1,10 +1,10 @@
-use Rattle.std.proofs.Common.{sym, ap, ◌∙◌}
+use Rattle.std.proofs.Common.{Err, sym, ap, ◌∙◌}
 use Rattle.std.proofs.lemmas.Bool.{cond-true, cond-false, not-true, not-false}
 use Rattle.text.specs.Texts.{formed}
 use Rattle.kinds.proofs.reading.read_text.Goals as goal
 
 pub returns-then-is_done : goal.returns-then-is_done
-returns-then-is_done g c = sym (cond-false (formed c.args.header.text.now) _ _ (not-true _ (sym (c.if-is_done.ensures ∙ c.of-walk.ensures.some))))
+returns-then-is_done g c = ap (λ e. Err e) c.of_message.ensures ∙ sym (cond-false (formed c.args.header.text.now) _ _ (not-true _ (sym (c.if-is_done.ensures ∙ c.of-walk.ensures.some))))
 
 pub returns : goal.returns
 returns g c =
