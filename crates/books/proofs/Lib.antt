@@ -1,4 +1,5 @@
+mod Lowest
+mod Moving
 mod Opened
-mod Pledged
 mod Totals
 pub mod Worse

@@ -1,12 +1,13 @@
 -- Covers together: what positions that come to 0 and what a sum paid in make of them.
-use Rattle.std.proofs.Common.{◌≡◌, ℕ, zero, suc, ◌+◌, ◌<◌, ◌≤◌, true, ◌&&◌, leb, List, length, get_or, take, set, ℤ, pos, ◌+ℤ◌, refl, add-one, arith}
+use Rattle.std.proofs.Common.{◌≡◌, ℕ, zero, suc, ◌+◌, ◌<◌, ◌≤◌, true, ◌&&◌, leb, List, length, Ok, get_or, take, set, ℤ, pos, ◌+ℤ◌, refl, add-one, arith}
 use Rattle.std.proofs.lemmas.Bool.Decides.{nat_tests}
-use Rattle.keeper.specs.PayIns.{most_paid_in}
+use Rattle.keeper.specs.PayIns.{most_paid_in, pay_in_answer}
 use Rattle.std.proofs.lemmas.Int.{ints}
 use Rattle.std.proofs.lemmas.List.Sums.{fold_more, get_or-le-sum_by, sum_by-set}
-use Rattle.std.proofs.lemmas.List.{take_all, ext_get_or}
+use Rattle.std.proofs.lemmas.List.{take_all}
 use Rattle.keeper.specs.Covers.{total, most_together}
 use Rattle.keeper.specs.Offers.{Sound, NoneShort, add_each, sum_ℤ}
+use Rattle.keeper.proofs.Accounts.{paid_in}
 use Rattle.keeper.proofs.Added.{add_each_at, add_each_length}
 
 pub cover_le_total : (covers : List ℕ) (k d : ℕ) → k < length covers → get_or covers k d ≤ total covers
@@ -15,16 +16,6 @@ cover_le_total covers k d h = get_or-le-sum_by (λ c. c) covers k d h
 pub total_paid : (covers : List ℕ) (k cover d amount : ℕ) → k < length covers → cover ≡ get_or covers k d → total covers + amount ≤ most_together
     → total (set covers k (cover + amount)) ≤ most_together
 total_paid covers k cover d amount h e room = let s = sum_by-set (λ c. c) covers k (cover + amount) d h in omega arith
-
--- covers that are each position added to its cover, house by house
-pub each_added : (before : List ℕ) (ps : List ℤ) (after : List ℕ) → length ps ≡ length before → NoneShort before ps → length after ≡ length before
-    → ((k : ℕ) → k < length before → pos (get_or after k 0) ≡ pos (get_or before k 0) +ℤ get_or ps k (pos 0)) → after ≡ add_each before ps
-each_added before ps after long enough same each =
-    let l = add_each_length before ps in
-    ext_get_or 0 after (add_each before ps) (omega arith) (λ k h.
-    let a = each k (omega arith) in
-    let b = add_each_at before ps long enough k (omega arith) in
-    omega (arith, ints))
 
 fronts : (covers : List ℕ) (ps : List ℤ) → length ps ≡ length covers → NoneShort covers ps
     → (i : ℕ) → i ≤ length covers → pos (total (take i (add_each covers ps))) ≡ pos (total (take i covers)) +ℤ sum_ℤ (take i ps)
@@ -52,6 +43,16 @@ total_added covers ps s enough =
     omega (arith, ints)
 
 -- a sum that is acceptable leaves the covers together within their most
-pub acceptable_room : (together amount : ℕ) → (leb 1 amount && (leb amount most_paid_in && leb (together + amount) most_together)) ≡ true
+acceptable_room : (together amount : ℕ) → (leb 1 amount && (leb amount most_paid_in && leb (together + amount) most_together)) ≡ true
     → together + amount ≤ most_together
 acceptable_room together amount e = grind (arith, nat_tests)
+
+-- a pay-in that is taken is for a house, and leaves the covers together within their most
+pub record Room (covers : List ℕ) (place amount : ℕ) : Type 0 where
+  pub here : place < length covers
+  pub room : total covers + amount ≤ most_together
+
+pub room_for : (covers : List ℕ) (place amount : ℕ) (done : Unit {0}) → Ok done ≡ pay_in_answer covers place amount → Room covers place amount
+room_for covers place amount done e =
+    let p = paid_in covers place amount done e in
+    record { here = p.0; room = acceptable_room (total covers) amount p.1 }

@@ -1,8 +1,7 @@
 -- Which short house a book names.
-use Rattle.std.specs.Prelude.{ℕ, ◌<◌, List, length, ℤ, pos, ◌+ℤ◌, neg_ℤ, ◌≤ℤ◌, ◌<ℤ◌, slice_index, slice_index_or}
-use Rattle.keeper.specs.Offers.{Lacks}
-use Rattle.keeper.specs.declared.answer.OfferAnswer.{OfferAnswer}
-use Rattle.keeper.specs.declared.answer.OfferAnswer.TheVariants.{Taken, Unsound, NoSitting, Short}
+use Rattle.std.specs.Prelude.{ℕ, ◌<◌, List, length, ℤ, pos, ◌+ℤ◌, neg_ℤ, ◌≤ℤ◌, ◌<ℤ◌, slice_index, slice_index_or, Ok, Err}
+use Rattle.keeper.specs.Offers.{OfferAnswer, Lacks}
+use Rattle.keeper.specs.declared.answer.OfferDenial.TheVariants.{Unsound, NoSitting, Short}
 
 -- the house at the place is short
 pub record IsShort (covers : List ℕ) (ps : List ℤ) (place : ℕ) : Type 0 where
@@ -30,14 +29,14 @@ pub record Greatest (covers : List ℕ) (ps : List ℤ) (place : ℕ) : Type 0 w
   pub worst : Worst covers ps place
 
 -- the house that an answer names, if it names one, is such
+abbrev pub Names : (List ℕ → List ℤ → ℕ → Type 0) → List ℕ → List ℤ → OfferAnswer → Type 0
+Names Such covers ps (Err (Short place cover)) = Such covers ps place
+Names Such covers ps (Ok done) = Unit {0}
+Names Such covers ps (Err Unsound) = Unit {0}
+Names Such covers ps (Err NoSitting) = Unit {0}
+
 abbrev pub NamesLowest : List ℕ → List ℤ → OfferAnswer → Type 0
-NamesLowest covers ps (Short place cover) = Lowest covers ps place
-NamesLowest covers ps Taken = Unit {0}
-NamesLowest covers ps Unsound = Unit {0}
-NamesLowest covers ps NoSitting = Unit {0}
+NamesLowest = Names Lowest
 
 abbrev pub NamesGreatest : List ℕ → List ℤ → OfferAnswer → Type 0
-NamesGreatest covers ps (Short place cover) = Greatest covers ps place
-NamesGreatest covers ps Taken = Unit {0}
-NamesGreatest covers ps Unsound = Unit {0}
-NamesGreatest covers ps NoSitting = Unit {0}
+NamesGreatest = Names Greatest

@@ -1,102 +1,85 @@
-// The account book: one balance a house. Of several short houses it names the one of lowest place.
-ghost use Rattle.std.specs.Prelude.{◌≡◌, ◌≤◌, length, MatchResult};
-ghost use Rattle.keeper.specs.Covers.{total, most_together, most_houses};
-ghost use Rattle.keeper.specs.Offers.{OfferAnswered, OfferDenied, covers_after, sittings_after};
-ghost use Rattle.books.specs.Naming.{NamesLowest};
-ghost use Rattle.books.specs.Opening.{Openable, OpenDenied};
+// What a book holds of one house, and the work on one such account a house.
+ghost use Rattle.std.specs.Prelude.{◌≡◌, ℕ, ◌≤◌, List, length, map, ℤ, pos, ◌+ℤ◌, ◌≤ℤ◌, IfOk, MatchOption};
+ghost use Rattle.keeper.specs.Covers.{total, most_together};
+ghost use Rattle.keeper.specs.Offers.{Sound, WithinLimit, NoneShort, add_each};
+ghost use Rattle.books.specs.Naming.{IsShort};
+ghost use Rattle.books.specs.Opening.{AllSmall, most_opening};
 
-use crate::balances::{add_each, first_short, total_of};
-use crate::offers::is_sound;
-use crate::opening::{OpenDenial, may_open};
-use crate::pay_ins::is_acceptable;
-use keeper::{CoverAnswer, Keeper, OfferAnswer, PayInAnswer, PayingIn};
-use std::alloc::Global;
+use std::alloc::{AllocError, Global};
 
-#[derive(Drop)]
-pub struct AccountBook {
-    balances: Vec<u64>,
-    sittings: u64,
-    ghost some: { 1 ≤ length balances.items },
-    ghost few: { length balances.items ≤ most_houses },
-    ghost bounded: { total balances.items ≤ most_together },
+pub trait Account: Copy {
+    // what the house may be in debit at most, in cents
+    ghost cover_in: { Self → ℕ };
+
+    // what the house has pledged: 0 where its book has no pledges
+    ghost pledge_in: { Self → ℕ };
+
+    // what a house pledges that opens with a sum
+    ghost pledge_of: { ℕ → ℕ };
+
+    fn open(sum: u64) -> Self
+        requires { sum ≤ most_opening }
+        ensures cover { cover_in result ≡ sum }
+        ensures pledge { pledge_in result ≡ pledge_of sum };
+
+    fn cover(&self) -> u64
+        ensures { result ≡ cover_in self.now };
+
+    // With the position added to the cover: a debit is taken from it.
+    fn moved(self, position: i64) -> Self
+        requires enough { pos 0 ≤ℤ (pos (cover_in self) +ℤ position) }
+        requires room { (pos (cover_in self) +ℤ position) ≤ℤ pos most_together }
+        ensures cover { pos (cover_in result) ≡ pos (cover_in self) +ℤ position }
+        ensures pledge { pledge_in result ≡ pledge_in self };
+
+    ghost small: { (account : Self) → cover_in account ≤ most_together };
 }
 
-impl AccountBook {
-    // A book over these balances, with so many sittings.
-    pub fn open(heap: Global, balances: &[u64], sittings: u64) -> Result<AccountBook, OpenDenial>
-        ensures { MatchResult result (λ b. Openable balances.now sittings × (b.balances.items ≡ balances.now) × (b.sittings ≡ sittings)) (λ e. OpenDenied balances.now sittings e) }
-    {
-        if !may_open(balances, sittings) {
-            return Err(OpenDenial::BreaksRule);
-        }
-        match Vec::from_slice(heap, balances) {
-            Ok(balances) => Ok(AccountBook { balances, sittings }),
-            Err(_) => Err(OpenDenial::NoMemory),
-        }
-    }
+// Which of the short houses a book of such accounts names.
+pub trait Naming: Account {
+    // by the covers and the positions of all houses, whether the one at a place is named
+    ghost Named: { List ℕ → List ℤ → ℕ → Type 0 };
+
+    // The place of the house that is named, if a sound offer leaves any short.
+    fn short(accounts: &[Self], positions: &[i64]) -> Option<usize>
+        requires some { 1 ≤ length accounts.now }
+        requires sound { Sound (length accounts.now) positions.now }
+        ensures { MatchOption result (NoneShort (map Self.Account.cover_in accounts.now) positions.now) (λ place. IsShort (map Self.Account.cover_in accounts.now) positions.now place × Named (map Self.Account.cover_in accounts.now) positions.now place) };
 }
 
-impl Keeper for AccountBook {
-    ghost covers = { λ b. b.balances.items };
-
-    ghost sittings = { λ b. b.sittings };
-
-    ghost some = { λ b. b.some };
-
-    ghost few = { λ b. b.few };
-
-    ghost bounded = { λ b. b.bounded };
-
-    fn houses(&self) -> usize {
-        self.balances.len()
-    }
-
-    fn cover(&self, place: usize) -> CoverAnswer {
-        if place < self.balances.len() {
-            CoverAnswer::Cover(self.balances[place])
-        } else {
-            CoverAnswer::NoSuchHouse
-        }
-    }
-
-    fn sittings_left(&self) -> u64 {
-        self.sittings
-    }
-
-    fn offer(&mut self, positions: &[i64]) -> OfferAnswer
-        ensures answer { OfferAnswered self.old.balances.items self.old.sittings positions.now result }
-        ensures covers_after { self.new.balances.items ≡ covers_after self.old.balances.items positions.now result }
-        ensures sittings_after { self.new.sittings ≡ sittings_after self.old.sittings result }
-        ensures denial_alters_nothing { OfferDenied result → self.new ≡ self.old }
-        ensures named { NamesLowest self.old.balances.items positions.now result }
-    {
-        if !is_sound(positions, self.balances.len()) {
-            return OfferAnswer::Unsound;
-        }
-        if self.sittings == 0 {
-            return OfferAnswer::NoSitting;
-        }
-        if let Some(place) = first_short(&self.balances, positions) {
-            return OfferAnswer::Short {
-                place,
-                cover: self.balances[place],
-            };
-        }
-        add_each(&mut self.balances, positions);
-        self.sittings -= 1;
-        OfferAnswer::Taken
-    }
+// What the house would have left: less than 0 where it is short.
+pub(crate) fn left<A: Account>(account: A, position: i64) -> i64
+    requires { WithinLimit position }
+    ensures { result ≡ pos (A.cover_in account) +ℤ position }
+{
+    account.cover() as i64 + position
 }
 
-impl PayingIn for AccountBook {
-    fn pay_in(&mut self, place: usize, amount: u64) -> PayInAnswer {
-        if place >= self.balances.len() {
-            return PayInAnswer::NoSuchHouse;
-        }
-        if !is_acceptable(total_of(&self.balances), amount) {
-            return PayInAnswer::Refused;
-        }
-        self.balances[place] += amount;
-        PayInAnswer::Taken
+pub(crate) fn open_each<A: Account>(heap: Global, sums: &[u64]) -> Result<Vec<A>, AllocError>
+    requires { AllSmall sums.now }
+    ensures covers { IfOk result (λ accounts. map A.cover_in accounts.items ≡ sums.now) }
+    ensures pledges { IfOk result (λ accounts. map A.pledge_in accounts.items ≡ map A.pledge_of sums.now) }
+{
+    sums.iter().map(|sum| A::open(*sum)).collect(heap)
+}
+
+pub(crate) fn together<A: Account>(accounts: &[A]) -> u64
+    requires { total (map A.cover_in accounts.now) ≤ most_together }
+    ensures { result ≡ total (map A.cover_in accounts.now) }
+{
+    accounts.iter().map(|account| account.cover()).sum()
+}
+
+pub(crate) fn add_each<A: Account>(accounts: &mut [A], positions: &[i64])
+    requires sound { Sound (length accounts.old) positions.now }
+    requires bounded { total (map A.cover_in accounts.old) ≤ most_together }
+    requires enough { NoneShort (map A.cover_in accounts.old) positions.now }
+    ensures covers { map A.cover_in accounts.new ≡ add_each (map A.cover_in accounts.old) positions.now }
+    ensures together { total (map A.cover_in accounts.new) ≡ total (map A.cover_in accounts.old) }
+    ensures pledges { map A.pledge_in accounts.new ≡ map A.pledge_in accounts.old }
+{
+    // By place: after a `zip` with `iter_mut` a proof knows nothing of what was written.
+    for (place, position) in positions.iter().enumerate() {
+        accounts[place] = accounts[place].moved(*position);
     }
 }

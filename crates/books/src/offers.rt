@@ -8,18 +8,13 @@ const POSITION_LIMIT: i64 = 4_096_000_000_000;
 fn is_within_limit(p: i64) -> bool
     ensures { Decides result (WithinLimit p) }
 {
-    -POSITION_LIMIT <= p && p <= POSITION_LIMIT
+    (-POSITION_LIMIT..=POSITION_LIMIT).contains(&p)
 }
 
 fn all_within_limit(ps: &[i64]) -> bool
     ensures { Decides result (AllWithinLimit ps.now) }
 {
-    for p in ps {
-        if !is_within_limit(*p) {
-            return false;
-        }
-    }
-    true
+    ps.iter().all(|p| is_within_limit(*p))
 }
 
 fn sum_of(ps: &[i64]) -> i64
@@ -27,6 +22,7 @@ fn sum_of(ps: &[i64]) -> i64
     requires within { AllWithinLimit ps.now }
     ensures { result ≡ sum_ℤ ps.now }
 {
+    // no `sum`, which at signed numbers has no bound to prove
     let mut sum = 0;
     for p in ps {
         sum += *p;
@@ -39,13 +35,4 @@ pub(crate) fn is_sound(ps: &[i64], houses: usize) -> bool
     ensures { Decides result (Sound houses ps.now) }
 {
     ps.len() == houses && all_within_limit(ps) && sum_of(ps) == 0
-}
-
-// What the house would have left: less than 0 where it is short.
-pub(crate) fn left(cover: u64, p: i64) -> i64
-    requires bounded { cover ≤ most_together }
-    requires within { WithinLimit p }
-    ensures { result ≡ pos cover +ℤ p }
-{
-    cover as i64 + p
 }

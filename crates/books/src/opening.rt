@@ -1,14 +1,16 @@
 // The rules of opening a book.
 ghost use Rattle.std.specs.Prelude.{◌≡◌, Decides};
 ghost use Rattle.books.specs.Opening.{Openable, AllSmall, open_number};
+ghost use Rattle.books.specs.declared.opening.OpenDenial.TheVariants.{NoMemory};
 
-const MOST_HOUSES: usize = 64;
+use keeper::MOST_HOUSES;
+use std::alloc::AllocError;
 
 const MOST_OPENING: u64 = 1_000_000_000_000;
 
 const MOST_SITTINGS: u64 = 255;
 
-// Why a book does not open.
+// Why a book does not open. Settings have cases of the same names, for rules of their own.
 #[derive(Clone, Copy, PartialEq, Eq, Debug)]
 pub enum OpenDenial {
     // not 1 to 64 houses, not 1 to 255 sittings, or a house with too large a sum
@@ -18,6 +20,7 @@ pub enum OpenDenial {
 }
 
 impl OpenDenial {
+    // Want of memory has none, so that no discriminant says it.
     pub fn number(self) -> Option<u8>
         ensures { result ≡ open_number self }
     {
@@ -28,23 +31,24 @@ impl OpenDenial {
     }
 }
 
+impl From<AllocError> for OpenDenial {
+    ghost from_gives = { λ _ denial. denial ≡ NoMemory };
+
+    fn from(_error: AllocError) -> OpenDenial {
+        OpenDenial::NoMemory
+    }
+}
+
 fn all_small(sums: &[u64]) -> bool
     ensures { Decides result (AllSmall sums.now) }
 {
-    for sum in sums {
-        if *sum > MOST_OPENING {
-            return false;
-        }
-    }
-    true
+    sums.iter().all(|sum| *sum <= MOST_OPENING)
 }
 
 pub(crate) fn may_open(sums: &[u64], sittings: u64) -> bool
     ensures { Decides result (Openable sums.now sittings) }
 {
-    1 <= sums.len()
-        && sums.len() <= MOST_HOUSES
-        && 1 <= sittings
-        && sittings <= MOST_SITTINGS
+    (1..=MOST_HOUSES).contains(&sums.len())
+        && (1..=MOST_SITTINGS).contains(&sittings)
         && all_small(sums)
 }

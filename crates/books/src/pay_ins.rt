@@ -12,5 +12,5 @@ pub(crate) fn is_acceptable(together: u64, amount: u64) -> bool
     requires { together ≤ most_together }
     ensures { result ≡ (nat_le 1 amount && (nat_le amount most_paid_in && nat_le (together + amount) most_together)) }
 {
-    1 <= amount && amount <= MOST_PAID_IN && together + amount <= MOST_TOGETHER
+    (1..=MOST_PAID_IN).contains(&amount) && together + amount <= MOST_TOGETHER
 }

@@ -5,7 +5,7 @@
 #[cfg(test)]
 mod tests {
     use books::{AccountBook, GuaranteeBook, OpenDenial};
-    use keeper::{CoverAnswer, Keeper, OfferAnswer, PayingIn};
+    use keeper::{CoverDenial, Keeper, Numbered, OfferAnswer, OfferDenial, PayingIn};
     use std::process::Abort;
     use std::test::Fail;
 
@@ -16,37 +16,24 @@ mod tests {
     // the furthest that a position may be from 0
     const LIMIT: i64 = 4_096_000_000_000;
 
-    // an answer's number, and the place and the cover that it names
-    type Said = (u8, usize, u64);
+    const TAKEN: OfferAnswer = Ok(());
 
-    const TAKEN: Said = (0, 0, 0);
+    const NO_SITTING: OfferAnswer = Err(OfferDenial::NoSitting);
 
-    const NO_SITTING: Said = (16, 0, 0);
+    const UNSOUND: OfferAnswer = Err(OfferDenial::Unsound);
 
-    const UNSOUND: Said = (21, 0, 0);
-
-    fn offer<K: Keeper>(book: &mut K, positions: &[i64]) -> Said {
-        match book.offer(positions) {
-            OfferAnswer::Short { place, cover } => (17, place, cover),
-            other => (other.number(), 0, 0),
-        }
-    }
-
-    fn cover<K: Keeper>(book: &K, place: usize) -> Option<u64> {
-        match book.cover(place) {
-            CoverAnswer::Cover(cents) => Some(cents),
-            CoverAnswer::NoSuchHouse => None,
-        }
+    fn short(place: usize, cover: u64) -> OfferAnswer {
+        Err(OfferDenial::Short { place, cover })
     }
 
     #[derive(Clone, Copy)]
     struct Trial {
         positions: [i64; 3],
-        account: Said,
-        guarantee: Said,
+        account: OfferAnswer,
+        guarantee: OfferAnswer,
     }
 
-    fn tried(positions: [i64; 3], account: Said, guarantee: Said) -> Trial {
+    fn tried(positions: [i64; 3], account: OfferAnswer, guarantee: OfferAnswer) -> Trial {
         Trial {
             positions,
             account,
@@ -59,12 +46,12 @@ mod tests {
         [
             tried([1, 0, 0], UNSOUND, UNSOUND),
             tried([-LIMIT - 1, LIMIT + 1, 0], UNSOUND, UNSOUND),
-            tried([LIMIT, -LIMIT, 0], (17, 1, 50), (17, 1, 50)),
-            tried([-101, 101, 0], (17, 0, 100), (17, 0, 100)),
-            tried([-101, -60, 161], (17, 0, 100), (17, 1, 50)),
-            tried([-110, -60, 170], (17, 0, 100), (17, 0, 100)),
+            tried([LIMIT, -LIMIT, 0], short(1, 50), short(1, 50)),
+            tried([-101, 101, 0], short(0, 100), short(0, 100)),
+            tried([-101, -60, 161], short(0, 100), short(1, 50)),
+            tried([-110, -60, 170], short(0, 100), short(0, 100)),
             tried([-100, 100, 0], TAKEN, TAKEN),
-            tried([-1, -151, 152], (17, 0, 0), (17, 0, 0)),
+            tried([-1, -151, 152], short(0, 0), short(0, 0)),
             tried([0, -150, 150], TAKEN, TAKEN),
             tried([0, 0, 0], NO_SITTING, NO_SITTING),
         ]
@@ -75,24 +62,32 @@ mod tests {
         let mut account = AccountBook::open(rt.alloc(), &[100, 50, 0], 2)?;
         let mut guarantee = GuaranteeBook::open(rt.alloc(), &[100, 50, 0], 2)?;
         for t in trials() {
-            assert_eq!(rt; offer(&mut account, &t.positions), t.account);
-            assert_eq!(rt; offer(&mut guarantee, &t.positions), t.guarantee);
+            assert_eq!(rt; account.offer(&t.positions), t.account);
+            assert_eq!(rt; guarantee.offer(&t.positions), t.guarantee);
         }
-        assert_eq!(rt; cover(&account, 2), Some(150));
-        assert_eq!(rt; cover(&guarantee, 2), Some(150));
+        assert_eq!(rt; account.cover(2), Ok(150));
+        assert_eq!(rt; guarantee.cover(2), Ok(150));
         Ok(())
+    }
+
+    #[test]
+    fn numbers(rt: HostRuntime) {
+        assert_eq!(rt; TAKEN.number(), 0);
+        assert_eq!(rt; NO_SITTING.number(), 16);
+        assert_eq!(rt; short(0, 100).number(), 17);
+        assert_eq!(rt; UNSOUND.number(), 21);
     }
 
     fn tell_lengths<K: Keeper>(rt: &impl Abort, book: &mut K) {
         let zeros = [0; 65];
         assert_eq!(rt; book.houses(), 64);
-        assert_eq!(rt; cover(book, 63), Some(MOST_OPENING));
-        assert_eq!(rt; cover(book, 64), None);
-        assert_eq!(rt; offer(book, &[]), UNSOUND);
-        assert_eq!(rt; offer(book, &zeros[0..63]), UNSOUND);
-        assert_eq!(rt; offer(book, &zeros), UNSOUND);
+        assert_eq!(rt; book.cover(63), Ok(MOST_OPENING));
+        assert_eq!(rt; book.cover(64), Err(CoverDenial::NoSuchHouse));
+        assert_eq!(rt; book.offer(&[]), UNSOUND);
+        assert_eq!(rt; book.offer(&zeros[0..63]), UNSOUND);
+        assert_eq!(rt; book.offer(&zeros), UNSOUND);
         assert_eq!(rt; book.sittings_left(), 255);
-        assert_eq!(rt; offer(book, &zeros[0..64]), TAKEN);
+        assert_eq!(rt; book.offer(&zeros[0..64]), TAKEN);
         assert_eq!(rt; book.sittings_left(), 254);
     }
 
@@ -105,8 +100,8 @@ mod tests {
             assert_eq!(rt; book.pay_in(7, MOST_PAID_IN).number(), 0);
         }
         assert_eq!(rt; book.pay_in(0, 1).number(), 19);
-        assert_eq!(rt; cover(book, 7), Some(937 * MOST_PAID_IN));
-        assert_eq!(rt; cover(book, 0), Some(MOST_OPENING));
+        assert_eq!(rt; book.cover(7), Ok(937 * MOST_PAID_IN));
+        assert_eq!(rt; book.cover(0), Ok(MOST_OPENING));
     }
 
     #[test]

@@ -1,7 +1,11 @@
 -- The covers of the houses: a list of cents, by place.
-use Rattle.std.specs.Prelude.{ℕ, ◌+◌, cond, List, length, fold, nat_lt, slice_index}
-use Rattle.keeper.specs.declared.answer.CoverAnswer.{CoverAnswer}
-use Rattle.keeper.specs.declared.answer.CoverAnswer.TheVariants.{Cover, NoSuchHouse}
+use Rattle.std.specs.Prelude.{ℕ, ◌+◌, cond, List, length, fold, nat_lt, slice_index, Result, Ok, Err}
+use Rattle.keeper.specs.declared.answer.CoverDenial.{CoverDenial}
+use Rattle.keeper.specs.declared.answer.CoverDenial.TheVariants.{NoSuchHouse}
+
+-- what the question for one house's cover is answered
+abbrev pub CoverAnswer : Type 0
+CoverAnswer = Result ℕ CoverDenial
 
 -- a keeper has 1 to so many houses
 abbrev pub most_houses : ℕ
@@ -17,4 +21,4 @@ total covers = fold (λ sum c. sum + c) 0 covers
 
 -- the cover of the house at a place
 abbrev pub cover_answer : List ℕ → ℕ → CoverAnswer
-cover_answer covers place = cond (nat_lt place (length covers)) (Cover (slice_index covers place)) NoSuchHouse
+cover_answer covers place = cond (nat_lt place (length covers)) (Ok (slice_index covers place)) (Err NoSuchHouse)

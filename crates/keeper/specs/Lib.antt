@@ -1,5 +1,5 @@
-pub mod Numbers
 pub mod Covers
 pub mod Offers
 pub mod PayIns
+pub mod Numbers
 pub mod Runs

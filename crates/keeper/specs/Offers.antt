@@ -1,8 +1,12 @@
 -- An offer: a list of signed positions, one a house by place. A house with a positive position is to receive so much, one
 -- with a negative position, a debit, is to pay it.
-use Rattle.std.specs.Prelude.{◌≡◌, ℕ, suc, ◌+◌, ◌-◌, ◌<◌, List, [], ◌∷◌, length, ℤ, pos, negsuc, ◌+ℤ◌, neg_ℤ, ◌≤ℤ◌, ◌<ℤ◌, fold, slice_index, slice_index_or}
-use Rattle.keeper.specs.declared.answer.OfferAnswer.{OfferAnswer}
-use Rattle.keeper.specs.declared.answer.OfferAnswer.TheVariants.{Taken, Unsound, NoSitting, Short}
+use Rattle.std.specs.Prelude.{◌≡◌, ℕ, suc, ◌+◌, ◌-◌, ◌<◌, List, [], ◌∷◌, length, ℤ, pos, negsuc, ◌+ℤ◌, neg_ℤ, ◌≤ℤ◌, ◌<ℤ◌, fold, slice_index, slice_index_or, Result, Ok, Err, IsErr}
+use Rattle.keeper.specs.declared.answer.OfferDenial.{OfferDenial}
+use Rattle.keeper.specs.declared.answer.OfferDenial.TheVariants.{Unsound, NoSitting, Short}
+
+-- what an offer is answered
+abbrev pub OfferAnswer : Type 0
+OfferAnswer = Result (Unit {0}) OfferDenial
 
 -- no position is further from 0 than this
 abbrev pub position_limit : ℕ
@@ -40,10 +44,10 @@ pub record ShortAt (covers : List ℕ) (ps : List ℤ) (place cover : ℕ) : Typ
 -- What an offer is answered, by a keeper with these covers and sittings: no two of the cases can hold of one offer, but for the
 -- choice of the house that Short names.
 abbrev pub OfferAnswered : List ℕ → ℕ → List ℤ → OfferAnswer → Type 0
-OfferAnswered covers sittings ps Unsound = Sound (length covers) ps → ⊥
-OfferAnswered covers sittings ps NoSitting = Sound (length covers) ps × (sittings ≡ 0)
-OfferAnswered covers sittings ps (Short place cover) = Sound (length covers) ps × (0 < sittings) × ShortAt covers ps place cover
-OfferAnswered covers sittings ps Taken = Sound (length covers) ps × (0 < sittings) × NoneShort covers ps
+OfferAnswered covers sittings ps (Err Unsound) = Sound (length covers) ps → ⊥
+OfferAnswered covers sittings ps (Err NoSitting) = Sound (length covers) ps × (sittings ≡ 0)
+OfferAnswered covers sittings ps (Err (Short place cover)) = Sound (length covers) ps × (0 < sittings) × ShortAt covers ps place cover
+OfferAnswered covers sittings ps (Ok done) = Sound (length covers) ps × (0 < sittings) × NoneShort covers ps
 
 -- the cover with the position added; a debit is taken from it
 abbrev pub moved : ℕ → ℤ → ℕ
@@ -58,20 +62,13 @@ add_each (c ∷ cs) (p ∷ ps) = moved c p ∷ add_each cs ps
 
 -- the covers, and the sittings, after an offer that was answered so
 abbrev pub covers_after : List ℕ → List ℤ → OfferAnswer → List ℕ
-covers_after covers ps Taken = add_each covers ps
-covers_after covers ps Unsound = covers
-covers_after covers ps NoSitting = covers
-covers_after covers ps (Short place cover) = covers
+covers_after covers ps (Ok done) = add_each covers ps
+covers_after covers ps (Err denial) = covers
 
 abbrev pub sittings_after : ℕ → OfferAnswer → ℕ
-sittings_after sittings Taken = sittings - 1
-sittings_after sittings Unsound = sittings
-sittings_after sittings NoSitting = sittings
-sittings_after sittings (Short place cover) = sittings
+sittings_after sittings (Ok done) = sittings - 1
+sittings_after sittings (Err denial) = sittings
 
--- an answer that is not Taken
+-- an answer that denies the offer
 abbrev pub OfferDenied : OfferAnswer → Type 0
-OfferDenied Taken = ⊥
-OfferDenied Unsound = Unit {0}
-OfferDenied NoSitting = Unit {0}
-OfferDenied (Short place cover) = Unit {0}
+OfferDenied answer = IsErr answer

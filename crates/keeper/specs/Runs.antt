@@ -1,9 +1,9 @@
 -- Any run of offers and pay-ins on one keeper, and what it leaves.
-use Rattle.std.specs.Prelude.{◌≡◌, ℕ, zero, suc, ◌+◌, ◌<◌, Bool, cond, List, [], ◌∷◌, length, ℤ, pos, ◌+ℤ◌, ◌==◌, slice_index, slice_index_or}
+use Rattle.std.specs.Prelude.{◌≡◌, ℕ, zero, suc, ◌+◌, ◌<◌, Bool, cond, List, [], ◌∷◌, length, ℤ, pos, ◌+ℤ◌, ◌==◌, slice_index, slice_index_or, Err}
 use Rattle.keeper.specs.Numbers.{offer_number, pay_in_number}
 use Rattle.keeper.specs.Offers.{OfferAnswered, OfferDenied, covers_after, sittings_after}
 use Rattle.keeper.specs.PayIns.{pay_in_answer, covers_paid, PayInDenied}
-use Rattle.keeper.specs.declared.answer.OfferAnswer.TheVariants.{Unsound}
+use Rattle.keeper.specs.declared.answer.OfferDenial.TheVariants.{Unsound}
 use Rattle.keeper.specs.declared.step.Step.{Step}
 use Rattle.keeper.specs.declared.step.Step.TheVariants.{Offer, PayIn}
 use Rattle.keeper.specs.declared.step.StepAnswer.{StepAnswer}
@@ -23,7 +23,7 @@ pub record Event : Type 0 where
 abbrev pub history : List Step → List StepAnswer → ℕ → List Event
 history steps answers zero = []
 history steps answers (suc n) =
-    record { step = slice_index_or steps n (PayIn 0 0); answer = slice_index_or answers n (answer.Offer Unsound) } ∷ history steps answers n
+    record { step = slice_index_or steps n (PayIn 0 0); answer = slice_index_or answers n (answer.Offer (Err Unsound)) } ∷ history steps answers n
 
 -- what a step does to the keeper, and is answered: what the promises of `offer` and `pay_in` say
 abbrev pub Does : Step → StepAnswer → Standing → Standing → Type 0
@@ -34,7 +34,7 @@ Does (PayIn place amount) (answer.Offer r) a b = ⊥
 Does (PayIn place amount) (answer.PayIn r) a b =
     (r ≡ pay_in_answer a.covers place amount) × (b.covers ≡ covers_paid a.covers place amount r) × (b.sittings ≡ a.sittings)
 
--- an answer that is not Taken
+-- an answer that denies the step
 abbrev pub StepDenied : StepAnswer → Type 0
 StepDenied (answer.Offer r) = OfferDenied r
 StepDenied (answer.PayIn r) = PayInDenied r

@@ -1,10 +1,10 @@
-// What a keeper answers.
+// What a keeper answers: that the call was carried out, or why it was denied.
 
-// To an offer of one position a house.
+// An offer of one position a house: every position was added to its cover, and one sitting was used.
+pub type OfferAnswer = Result<(), OfferDenial>;
+
 #[derive(Clone, Copy, PartialEq, Eq, Debug)]
-pub enum OfferAnswer {
-    // every position was added to its cover, and one sitting was used
-    Taken,
+pub enum OfferDenial {
     // not one position a house, or not together 0, or one out of bounds
     Unsound,
     // no sitting is left
@@ -13,20 +13,21 @@ pub enum OfferAnswer {
     Short { place: usize, cover: u64 },
 }
 
-// To a pay-in for one house.
+// A pay-in for one house: the sum was added to the house's cover.
+pub type PayInAnswer = Result<(), PayInDenial>;
+
 #[derive(Clone, Copy, PartialEq, Eq, Debug)]
-pub enum PayInAnswer {
-    // the sum was added to the house's cover
-    Taken,
+pub enum PayInDenial {
     // no such house
     NoSuchHouse,
     // a sum of 0, above the most for one pay-in, or taking the covers together past their most
     Refused,
 }
 
-// To the question for one house's cover.
+// The question for one house's cover.
+pub type CoverAnswer = Result<u64, CoverDenial>;
+
 #[derive(Clone, Copy, PartialEq, Eq, Debug)]
-pub enum CoverAnswer {
-    Cover(u64),
+pub enum CoverDenial {
     NoSuchHouse,
 }

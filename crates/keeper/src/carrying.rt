@@ -16,22 +16,16 @@ pub fn act<K: PayingIn>(keeper: &mut K, step: Step) -> StepAnswer
     }
 }
 
-// The first `n` steps in order, each answer written at its step's place.
-fn carry_first<K: PayingIn>(keeper: &mut K, steps: &[Step], answers: &mut [StepAnswer], n: usize)
-    requires { (n ≤ length steps.now) × (n ≤ length answers.old) }
-    ensures carried { Carried (record { covers = K.Keeper.covers keeper.old; sittings = K.Keeper.sittings keeper.old }) (history steps.now answers.new n) (record { covers = K.Keeper.covers keeper.new; sittings = K.Keeper.sittings keeper.new }) }
-    ensures rest_stays { (k : ℕ) (d : StepAnswer) → n ≤ k → slice_index_or answers.new k d ≡ slice_index_or answers.old k d }
-{
-    for i in 0..n {
-        answers[i] = act(keeper, steps[i]);
-    }
-}
-
 // The steps in order, as many as there is room for answers. Each answer is written at its step's place; the rest of `answers` stays.
 pub fn carry_out<K: PayingIn>(keeper: &mut K, steps: &[Step], answers: &mut [StepAnswer])
     ensures carried { Carried (record { covers = K.Keeper.covers keeper.old; sittings = K.Keeper.sittings keeper.old }) (history steps.now answers.new (min (length steps.now) (length answers.old))) (record { covers = K.Keeper.covers keeper.new; sittings = K.Keeper.sittings keeper.new }) }
     ensures rest_stays { (k : ℕ) (d : StepAnswer) → length steps.now ≤ k → slice_index_or answers.new k d ≡ slice_index_or answers.old k d }
 {
-    let n = steps.len().min(answers.len());
-    carry_first(keeper, steps, answers, n);
+    for (place, step) in steps.iter().enumerate() {
+        if place >= answers.len() {
+            return;
+        }
+        // by place, since after a `zip` with `iter_mut` a proof knows nothing of what was written
+        answers[place] = act(keeper, *step);
+    }
 }

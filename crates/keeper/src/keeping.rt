@@ -6,6 +6,9 @@ ghost use Rattle.keeper.specs.PayIns.{pay_in_answer, covers_paid, PayInDenied};
 
 use crate::answer::{CoverAnswer, OfferAnswer, PayInAnswer};
 
+// A keeper has 1 to so many houses.
+pub const MOST_HOUSES: usize = 64;
+
 pub trait Keeper {
     // One cover a house, by place: what the house may be in debit at most, in cents.
     ghost covers: { Self → List ℕ };
@@ -22,7 +25,7 @@ pub trait Keeper {
     fn sittings_left(&self) -> u64
         ensures { result ≡ sittings self.now };
 
-    // Unsound, then NoSitting, then Short exactly where some debit is above its cover; else Taken.
+    // Denied as Unsound, then NoSitting, then Short exactly where some debit is above its cover; else taken.
     // Which of several short houses is named is the keeper's own choice.
     fn offer(&mut self, positions: &[i64]) -> OfferAnswer
         ensures answer { OfferAnswered (covers self.old) (sittings self.old) positions.now result }
@@ -38,7 +41,7 @@ pub trait Keeper {
 }
 
 pub trait PayingIn: Keeper {
-    // NoSuchHouse, then Refused; else Taken, one cover higher. A pay-in uses no sitting.
+    // Denied as NoSuchHouse, then Refused; else taken, one cover higher. A pay-in uses no sitting.
     fn pay_in(&mut self, place: usize, amount: u64) -> PayInAnswer
         ensures answer { result ≡ pay_in_answer (Self.Keeper.covers self.old) place amount }
         ensures covers_after { Self.Keeper.covers self.new ≡ covers_paid (Self.Keeper.covers self.old) place amount result }

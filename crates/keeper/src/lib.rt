@@ -9,7 +9,8 @@ mod keeping;
 mod numbers;
 mod step;
 
-pub use answer::{CoverAnswer, OfferAnswer, PayInAnswer};
+pub use answer::{CoverAnswer, CoverDenial, OfferAnswer, OfferDenial, PayInAnswer, PayInDenial};
 pub use carrying::{act, carry_out};
-pub use keeping::{Keeper, PayingIn};
+pub use keeping::{Keeper, MOST_HOUSES, PayingIn};
+pub use numbers::Numbered;
 pub use step::{Step, StepAnswer};
