@@ -12,16 +12,11 @@ phase_number Over = 5
 
 -- positions are answered, and one of the two settlements is due
 abbrev pub is_calculated : Phase → Bool
-is_calculated MorningCollecting = false
 is_calculated MorningCalculated = true
-is_calculated AfternoonCollecting = false
 is_calculated AfternoonCalculated = true
-is_calculated Over = false
+is_calculated _ = false
 
 -- the settlement of the afternoon is due
 abbrev pub is_afternoon_calculated : Phase → Bool
-is_afternoon_calculated MorningCollecting = false
-is_afternoon_calculated MorningCalculated = false
-is_afternoon_calculated AfternoonCollecting = false
 is_afternoon_calculated AfternoonCalculated = true
-is_afternoon_calculated Over = false
+is_afternoon_calculated _ = false

@@ -1,13 +1,17 @@
 -- What a settlement is answered and leaves, in a day of so many houses.
-use Rattle.std.specs.Prelude.{◌≡◌, ℕ, ◌<◌, Bool, true, false, ◌⊎◌, List, map, length, Some, ◌≢◌}
+use Rattle.std.specs.Prelude.{◌≡◌, ℕ, ◌<◌, Bool, true, false, ◌⊎◌, List, map, length, Some, ◌≢◌, Result, Ok, Err}
 use Rattle.netting.specs.Payments.{waiting}
 use Rattle.netting.specs.Outcomes.{Booked, Morning, ShortOfAll}
 use Rattle.day.specs.Phases.{is_calculated}
 use Rattle.day.specs.Changes.{stamp, settled_at_last}
 use Rattle.day.specs.Scene.{Scene}
 use Rattle.day.specs.declared.phase.Phase.TheVariants.{MorningCalculated, AfternoonCollecting, AfternoonCalculated, Over}
-use Rattle.day.specs.declared.answer.SettleAnswer.{SettleAnswer}
-use Rattle.day.specs.declared.answer.SettleAnswer.TheVariants.{Settled, WrongPhase, OtherHouses, NoSitting, Short}
+use Rattle.day.specs.declared.answer.SettleDenial.{SettleDenial}
+use Rattle.day.specs.declared.answer.SettleDenial.TheVariants.{WrongPhase, OtherHouses, NoSitting, Short}
+
+-- what a settlement is answered
+abbrev pub SettleAnswer : Type 0
+SettleAnswer = Result (Unit {0}) SettleDenial
 
 -- The morning: the marked records, the greatest selection of what waits that the covers admit, are settled and booked; the rest wait.
 pub record MorningDone (a b : Scene) : Type 0 where
@@ -35,20 +39,12 @@ pub record Unmoved (a b : Scene) : Type 0 where
 
 -- The answers in the order in which they are looked for. Only in the afternoon is a house named short, and then it is remembered.
 abbrev pub Settles : ℕ → SettleAnswer → Scene → Scene → Type 0
-Settles houses WrongPhase a b = (is_calculated a.phase ≡ false) × Unmoved a b × (b.remembered ≡ a.remembered)
-Settles houses OtherHouses a b =
+Settles houses (Err WrongPhase) a b = (is_calculated a.phase ≡ false) × Unmoved a b × (b.remembered ≡ a.remembered)
+Settles houses (Err OtherHouses) a b =
     (is_calculated a.phase ≡ true) × (length a.covers ≢ houses) × Unmoved a b × (b.remembered ≡ a.remembered)
-Settles houses NoSitting a b =
+Settles houses (Err NoSitting) a b =
     (is_calculated a.phase ≡ true) × (length a.covers ≡ houses) × (a.sittings ≡ 0) × Unmoved a b × (b.remembered ≡ a.remembered)
-Settles houses (Short place cover) a b =
+Settles houses (Err (Short place cover)) a b =
     (a.phase ≡ AfternoonCalculated) × (length a.covers ≡ houses) × (0 < a.sittings) × ShortOfAll a.records a.covers place cover
     × Unmoved a b × (b.remembered ≡ Some place)
-Settles houses Settled a b = (length a.covers ≡ houses) × (MorningDone a b ⊎ AfternoonDone a b)
-
--- an answer that is not Settled
-abbrev pub SettleDenied : SettleAnswer → Type 0
-SettleDenied Settled = ⊥
-SettleDenied WrongPhase = Unit {0}
-SettleDenied OtherHouses = Unit {0}
-SettleDenied NoSitting = Unit {0}
-SettleDenied (Short place cover) = Unit {0}
+Settles houses (Ok done) a b = (length a.covers ≡ houses) × (MorningDone a b ⊎ AfternoonDone a b)

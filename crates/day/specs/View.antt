@@ -2,18 +2,19 @@
 use Rattle.std.specs.Prelude.{◌≡◌, ℕ, List, length, take, drop}
 use Rattle.records.specs.declared.recorded.Record.{Record}
 use Rattle.day.specs.Scene.{Scene}
+use Rattle.day.specs.declared.ledger.Ledger.{Ledger}
 use Rattle.day.specs.declared.day.Day.{Day}
 
--- its records so far
-abbrev pub records_of : Day → List Record
-records_of d = take d.used d.records.now
+-- the records so far
+abbrev pub records_of : Ledger → List Record
+records_of l = take l.used l.records.now
 
 -- the places of the caller's slice that are free
-abbrev pub free_of : Day → List Record
-free_of d = drop d.used d.records.now
+abbrev pub free_of : Ledger → List Record
+free_of l = drop l.used l.records.now
 
 -- What calculating, settling and excluding leave as it was: the caller's slice with its length, how many records there are, every free place, and the houses.
-abbrev pub Fixed : Day → Day → Type 0
+abbrev pub Fixed : Ledger → Ledger → Type 0
 Fixed a b =
     (b.records.ghost_name ≡ a.records.ghost_name) × (length b.records.now ≡ length a.records.now) × (b.used ≡ a.used)
     × (free_of b ≡ free_of a) × (b.houses ≡ a.houses)
@@ -21,4 +22,4 @@ Fixed a b =
 -- the day, with what its keeper has
 abbrev pub scene_of : Day → List ℕ → ℕ → Scene
 scene_of d covers sittings =
-    record { phase = d.phase; remembered = d.remembered; records = records_of d; covers = covers; sittings = sittings }
+    record { phase = d.phase; remembered = d.remembered; records = records_of d.ledger; covers = covers; sittings = sittings }

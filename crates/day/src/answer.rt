@@ -1,25 +1,29 @@
-// What the calls on a day answer.
+// What the calls on a day answer: that the call was carried out, or why it was denied.
+
+// The day went on to its next phase.
+pub type CalculateAnswer = Result<(), CalculateDenial>;
 
 #[derive(Clone, Copy, PartialEq, Eq, Debug)]
-pub enum CalculateAnswer {
-    // the day went on to its next phase
-    Calculated,
+pub enum CalculateDenial {
     // nothing is being collected
     WrongPhase,
 }
 
+// What the house is to receive less what it is to send, in cents.
+pub type PositionAnswer = Result<i64, PositionDenial>;
+
 #[derive(Clone, Copy, PartialEq, Eq, Debug)]
-pub enum PositionAnswer {
-    // what the house is to receive less what it is to send, in cents
-    Position(i64),
+pub enum PositionDenial {
     NoSuchHouse,
     // nothing is calculated
     WrongPhase,
 }
 
+// The settlement that was due is done.
+pub type SettleAnswer = Result<(), SettleDenial>;
+
 #[derive(Clone, Copy, PartialEq, Eq, Debug)]
-pub enum SettleAnswer {
-    Settled,
+pub enum SettleDenial {
     // nothing is calculated
     WrongPhase,
     // the keeper has another number of houses than the day
@@ -30,9 +34,11 @@ pub enum SettleAnswer {
     Short { place: usize, cover: u64 },
 }
 
+// The house is excluded, and forgotten.
+pub type ExcludeAnswer = Result<(), ExcludeDenial>;
+
 #[derive(Clone, Copy, PartialEq, Eq, Debug)]
-pub enum ExcludeAnswer {
-    Excluded,
+pub enum ExcludeDenial {
     NoSuchHouse,
     // the afternoon is not calculated
     WrongPhase,

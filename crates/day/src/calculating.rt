@@ -3,7 +3,7 @@ ghost use Rattle.std.specs.Prelude.{◌≡◌};
 ghost use Rattle.day.specs.Answers.{calculate_answer, calculated_from, position_answer};
 ghost use Rattle.day.specs.View.{records_of, Fixed};
 
-use crate::answer::{CalculateAnswer, PositionAnswer};
+use crate::answer::{CalculateAnswer, CalculateDenial, PositionAnswer, PositionDenial};
 use crate::day::Day;
 use crate::phase::Phase;
 
@@ -13,33 +13,27 @@ impl<'a> Day<'a> {
         ensures answer { result ≡ calculate_answer self.old.phase }
         ensures phase_after { self.new.phase ≡ calculated_from self.old.phase }
         ensures remembered_stays { self.new.remembered ≡ self.old.remembered }
-        ensures records_stay { records_of self.new ≡ records_of self.old }
-        ensures fixed { Fixed self.old self.new }
+        ensures records_stay { records_of self.new.ledger ≡ records_of self.old.ledger }
+        ensures fixed { Fixed self.old.ledger self.new.ledger }
     {
-        match self.phase {
-            Phase::MorningCollecting => {
-                self.phase = Phase::MorningCalculated;
-                CalculateAnswer::Calculated
-            }
-            Phase::AfternoonCollecting => {
-                self.phase = Phase::AfternoonCalculated;
-                CalculateAnswer::Calculated
-            }
-            _ => CalculateAnswer::WrongPhase,
-        }
+        self.phase = match self.phase {
+            Phase::MorningCollecting => Phase::MorningCalculated,
+            Phase::AfternoonCollecting => Phase::AfternoonCalculated,
+            _ => return Err(CalculateDenial::WrongPhase),
+        };
+        Ok(())
     }
 
     // The position of a house over all that waits now.
     pub fn position(&self, place: usize) -> PositionAnswer
-        ensures { result ≡ position_answer self.now.houses self.now.phase (records_of self.now) place }
+        ensures { result ≡ position_answer self.now.ledger.houses self.now.phase (records_of self.now.ledger) place }
     {
-        if place >= self.houses {
-            return PositionAnswer::NoSuchHouse;
+        if place >= self.ledger.houses {
+            return Err(PositionDenial::NoSuchHouse);
         }
         if !self.phase.is_calculated() {
-            return PositionAnswer::WrongPhase;
+            return Err(PositionDenial::WrongPhase);
         }
-        let n = self.used;
-        PositionAnswer::Position(netting::position(&self.records[0..n], place))
+        Ok(netting::position(self.ledger.listed(), place))
     }
 }

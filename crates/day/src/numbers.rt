@@ -1,55 +1,51 @@
-// The numbers that the answers stand for: 0 where the call was carried out, else the denial's.
-ghost use Rattle.std.specs.Prelude.{◌≡◌};
-ghost use Rattle.day.specs.Numbers.{calculate_number, position_number, settle_number, exclude_number};
+// The numbers that the answers stand for: 0 where the call was carried out, else the denial's. Each is a match, as a keeper's.
+ghost use Rattle.day.specs.Numbers.{calculate_denial_number, position_denial_number, settle_denial_number, exclude_denial_number};
 
-use crate::answer::{CalculateAnswer, ExcludeAnswer, PositionAnswer, SettleAnswer};
+use crate::answer::{CalculateDenial, ExcludeDenial, PositionDenial, SettleDenial};
+use keeper::Numbered;
 
-impl CalculateAnswer {
-    pub fn number(self) -> u8
-        ensures { result ≡ calculate_number self }
-    {
+impl Numbered for CalculateDenial {
+    ghost number_in = { calculate_denial_number };
+
+    fn number(&self) -> u8 {
         match self {
-            CalculateAnswer::Calculated => 0,
-            CalculateAnswer::WrongPhase => 2,
+            CalculateDenial::WrongPhase => 2,
         }
     }
 }
 
-impl PositionAnswer {
-    pub fn number(self) -> u8
-        ensures { result ≡ position_number self }
-    {
+impl Numbered for PositionDenial {
+    ghost number_in = { position_denial_number };
+
+    fn number(&self) -> u8 {
         match self {
-            PositionAnswer::Position(_) => 0,
-            PositionAnswer::NoSuchHouse => 1,
-            PositionAnswer::WrongPhase => 2,
+            PositionDenial::NoSuchHouse => 1,
+            PositionDenial::WrongPhase => 2,
         }
     }
 }
 
-impl SettleAnswer {
-    pub fn number(self) -> u8
-        ensures { result ≡ settle_number self }
-    {
+impl Numbered for SettleDenial {
+    ghost number_in = { settle_denial_number };
+
+    fn number(&self) -> u8 {
         match self {
-            SettleAnswer::Settled => 0,
-            SettleAnswer::WrongPhase => 2,
-            SettleAnswer::OtherHouses => 15,
-            SettleAnswer::NoSitting => 16,
-            SettleAnswer::Short { .. } => 17,
+            SettleDenial::WrongPhase => 2,
+            SettleDenial::OtherHouses => 15,
+            SettleDenial::NoSitting => 16,
+            SettleDenial::Short { .. } => 17,
         }
     }
 }
 
-impl ExcludeAnswer {
-    pub fn number(self) -> u8
-        ensures { result ≡ exclude_number self }
-    {
+impl Numbered for ExcludeDenial {
+    ghost number_in = { exclude_denial_number };
+
+    fn number(&self) -> u8 {
         match self {
-            ExcludeAnswer::Excluded => 0,
-            ExcludeAnswer::NoSuchHouse => 1,
-            ExcludeAnswer::WrongPhase => 2,
-            ExcludeAnswer::NotRemembered => 18,
+            ExcludeDenial::NoSuchHouse => 1,
+            ExcludeDenial::WrongPhase => 2,
+            ExcludeDenial::NotRemembered => 18,
         }
     }
 }

@@ -5,46 +5,33 @@ ghost use Rattle.day.specs.Phases.{is_calculated, is_afternoon_calculated, phase
 #[derive(Clone, Copy, PartialEq, Eq, Debug)]
 pub enum Phase {
     // files are handed in
-    MorningCollecting,
+    MorningCollecting = 1,
     // the morning is to be settled
-    MorningCalculated,
+    MorningCalculated = 2,
     // files are handed in again
-    AfternoonCollecting,
+    AfternoonCollecting = 3,
     // the afternoon is to be settled
-    AfternoonCalculated,
-    Over,
+    AfternoonCalculated = 4,
+    Over = 5,
 }
 
 impl Phase {
     pub fn number(self) -> u8
         ensures { result ≡ phase_number self }
     {
-        match self {
-            Phase::MorningCollecting => 1,
-            Phase::MorningCalculated => 2,
-            Phase::AfternoonCollecting => 3,
-            Phase::AfternoonCalculated => 4,
-            Phase::Over => 5,
-        }
+        self as u8
     }
 
     // Positions are answered, and one of the two settlements is due.
     pub(crate) fn is_calculated(self) -> bool
         ensures { result ≡ is_calculated self }
     {
-        match self {
-            Phase::MorningCalculated => true,
-            Phase::AfternoonCalculated => true,
-            _ => false,
-        }
+        matches!(self, Phase::MorningCalculated | Phase::AfternoonCalculated)
     }
 
     pub(crate) fn is_afternoon_calculated(self) -> bool
         ensures { result ≡ is_afternoon_calculated self }
     {
-        match self {
-            Phase::AfternoonCalculated => true,
-            _ => false,
-        }
+        self == Phase::AfternoonCalculated
     }
 }

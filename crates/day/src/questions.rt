@@ -21,16 +21,15 @@ impl<'a> Day<'a> {
     }
 
     pub fn houses(&self) -> usize
-        ensures { result ≡ self.now.houses }
+        ensures { result ≡ self.now.ledger.houses }
     {
-        self.houses
+        self.ledger.houses
     }
 
     // The records so far, in the order in which the messages were handed in.
     pub fn records(&self) -> &[Record]
-        ensures { result.now ≡ records_of self.now }
+        ensures { result.now ≡ records_of self.now.ledger }
     {
-        let n = self.used;
-        &self.records[0..n]
+        self.ledger.listed()
     }
 }

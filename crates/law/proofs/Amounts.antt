@@ -1,6 +1,13 @@
 -- What the calls do to the sums over the records.
-use Rattle.std.proofs.Common.{◌≡◌, ℕ, zero, suc, ◌+◌, ◌<◌, Bool, true, false, cond, ◌&&◌, ◌||◌, List, [], ◌∷◌, ◌++◌, map, length, get_or, drop, sym, refl, ap, ◌∙◌, inl, inr, arith}
-use Rattle.std.proofs.lemmas.Bool.{cases_Bool, both_ways, false≢true, and_parts}
+use Rattle.std.proofs.Common.{◌≡◌, ℕ, zero, suc, ◌+◌, ◌<◌, Bool, true, false, cond, ◌&&◌, ◌||◌, List, [], ◌∷◌, ◌++◌, map, length, get_or, sum_by, sym, refl, ap, ◌∙◌, inl, inr, arith}
+use Rattle.std.proofs.Math.Path.{fun_ext}
+use Rattle.std.proofs.lemmas.Simd.{map-map}
+use Rattle.std.proofs.lemmas.List.Folds.{fold-map}
+use Rattle.std.proofs.lemmas.List.Sums.{sum_by-cons}
+use Rattle.std.proofs.lemmas.Bool.{cases_Bool, cases_lt, and_parts}
+use Rattle.std.proofs.lemmas.List.{get_or-map, get_or_past, length-map}
+use Rattle.records.specs.Records.{record_at, blank}
+use Rattle.day.proofs.Stores.{length_stamp, stamp_at}
 use Rattle.records.specs.States.{waits, is_rejected, is_morning, is_settled, is_excluded}
 use Rattle.records.specs.declared.recorded.Record.{Record}
 use Rattle.records.specs.declared.state.State.{State}
@@ -9,10 +16,16 @@ use Rattle.netting.specs.Sums.{sum_to}
 use Rattle.netting.specs.Payments.{waiting, is_from, is_to}
 use Rattle.netting.specs.Selections.{marked, share, Only}
 use Rattle.netting.proofs.Totals.{sum_to_none}
-use Rattle.day.specs.Changes.{in_state, stamp, settled_at_last, excluded_with}
-use Rattle.law.specs.Runs.{sum_of, Untouched}
+use Rattle.day.specs.Changes.{in_state, put, stamp, settled_at_last, excluded_with}
+use Rattle.law.specs.Runs.{Untouched}
 use Rattle.law.specs.Laws.{in_morning, amounts, settled_side, as_handed_in}
-use Rattle.law.proofs.Sums.{sum_of_map}
+
+-- a map that keeps what another sees
+pub map_kept : {X Y : Type 0} (g : X → Y) (f : X → X) (xs : List X) → ((x : X) → g (f x) ≡ g x) → map g (map f xs) ≡ map g xs
+map_kept g f xs h = map-map g f xs ∙ ap (λ k. map k xs) (fun_ext h)
+
+sum_kept : {X : Type 0} (g : X → ℕ) (f : X → X) (xs : List X) → ((x : X) → g (f x) ≡ g x) → sum_by g (map f xs) ≡ sum_by g xs
+sum_kept g f xs h = fold-map (λ n x. n + g x) f 0 xs ∙ ap (λ k. sum_by k xs) (fun_ext h)
 
 -- the amounts are those rejected, waiting, settled and excluded
 part : (a : ℕ) (s : State) → a ≡ cond (is_rejected s) a 0 + cond (waits s) a 0 + cond (is_settled s) a 0 + cond (is_excluded s) a 0
@@ -22,41 +35,30 @@ part a SettledMorning = omega arith
 part a SettledAfternoon = omega arith
 part a Excluded = omega arith
 
-pub by_state : (rs : List Record) → sum_of (λ r. r.amount) rs
+amounts-cons : (is : State → Bool) (r : Record) (rs : List Record) → amounts is (r ∷ rs) ≡ cond (is r.state) r.amount 0 + amounts is rs
+amounts-cons is = sum_by-cons (λ r. cond (is r.state) r.amount 0)
+
+pub by_state : (rs : List Record) → sum_by (λ r. r.amount) rs
     ≡ amounts is_rejected rs + amounts waits rs + amounts is_settled rs + amounts is_excluded rs
 by_state [] = refl
-by_state (r ∷ rs) = let ih = by_state rs in let e = part r.amount r.state in omega arith
+by_state (r ∷ rs) =
+    omega (arith, by_state rs, part r.amount r.state, sum_by-cons (λ r. r.amount) r rs, amounts-cons is_rejected r rs, amounts-cons waits r rs, amounts-cons is_settled r rs, amounts-cons is_excluded r rs)
 
 sum_to_front : (f : ℕ → ℕ) (n : ℕ) → sum_to f (suc n) ≡ f 0 + sum_to (λ i. f (suc i)) n
 sum_to_front f zero = omega arith
 sum_to_front f (suc n) = let ih = sum_to_front f n in omega arith
 
--- what a state that waits is not
-waits_not_rejected : (s : State) → waits s ≡ true → is_rejected s ≡ false
-waits_not_rejected (Rejected c m f r) w = absurd (false≢true w)
-waits_not_rejected Waiting w = refl
-waits_not_rejected SettledMorning w = refl
-waits_not_rejected SettledAfternoon w = refl
-waits_not_rejected Excluded w = refl
-
-waits_not_settled : (s : State) → waits s ≡ true → is_settled s ≡ false
-waits_not_settled (Rejected c m f r) w = refl
-waits_not_settled Waiting w = refl
-waits_not_settled SettledMorning w = absurd (false≢true w)
-waits_not_settled SettledAfternoon w = absurd (false≢true w)
-waits_not_settled Excluded w = refl
-
-waits_not_morning : (s : State) → waits s ≡ true → is_morning s ≡ false
-waits_not_morning (Rejected c m f r) w = refl
-waits_not_morning Waiting w = refl
-waits_not_morning SettledMorning w = absurd (false≢true w)
-waits_not_morning SettledAfternoon w = refl
-waits_not_morning Excluded w = refl
+is_waiting : (s : State) → waits s ≡ true → s ≡ Waiting
+is_waiting (Rejected c m f r) w = cc
+is_waiting Waiting w = refl
+is_waiting SettledMorning w = cc
+is_waiting SettledAfternoon w = cc
+is_waiting Excluded w = cc
 
 rejected_not_morning : (s : State) → is_rejected s ≡ true → is_morning s ≡ false
 rejected_not_morning (Rejected c m f r) w = refl
 rejected_not_morning Waiting w = refl
-rejected_not_morning SettledMorning w = absurd (false≢true w)
+rejected_not_morning SettledMorning w = cc
 rejected_not_morning SettledAfternoon w = refl
 rejected_not_morning Excluded w = refl
 
@@ -64,17 +66,17 @@ rejected_not_morning Excluded w = refl
 abbrev pub Stateless : (Record → ℕ → Bool) → Type 0
 Stateless side = (s : State) (r : Record) (h : ℕ) → side (in_state s r) h ≡ side r h
 
+-- what one record counts on a side, once it is settled
+abbrev settled_part : (Record → ℕ → Bool) → ℕ → Record → ℕ
+settled_part side h r = cond (is_settled r.state && side r h) r.amount 0
+
 -- one record that waits is settled, in the morning or in the afternoon
 settled_one : (z : State) → is_settled z ≡ true → (side : Record → ℕ → Bool) → Stateless side → (h : ℕ) (b : Bool) (r : Record)
     → (b ≡ true → waits r.state ≡ true)
-    → cond (is_settled (cond b (in_state z r) r).state && side (cond b (in_state z r) r) h) (cond b (in_state z r) r).amount 0
-    ≡ cond (is_settled r.state && side r h) r.amount 0 + cond (b && side r h) r.amount 0
+    → settled_part side h (put z b r) ≡ settled_part side h r + cond (b && side r h) r.amount 0
 settled_one z is side keeps h true r w =
-    let a : cond (is_settled z && side (in_state z r) h) r.amount 0 ≡ cond (side (in_state z r) h) r.amount 0 =
-    ap (λ (x : Bool). cond (x && side (in_state z r) h) r.amount 0) is in
-    let b : cond (side (in_state z r) h) r.amount 0 ≡ cond (side r h) r.amount 0 = ap (λ (x : Bool). cond x r.amount 0) (keeps z r h) in
-    let c : cond (is_settled r.state && side r h) r.amount 0 ≡ 0 =
-    ap (λ (x : Bool). cond (x && side r h) r.amount 0) (waits_not_settled r.state (w refl)) in
+    let a : settled_part side h (in_state z r) ≡ cond (side r h) r.amount 0 = rw (is, keeps z r h) refl in
+    let c : settled_part side h r ≡ 0 = ap (λ (x : State). cond (is_settled x && side r h) r.amount 0) (is_waiting r.state (w refl)) in
     omega arith
 settled_one z is side keeps h false r w = omega arith
 
@@ -83,12 +85,12 @@ pub stamp_side : (side : Record → ℕ → Bool) → Stateless side → (h : �
 stamp_side side keeps h [] [] only = refl
 stamp_side side keeps h (b ∷ bs) [] only = refl
 stamp_side side keeps h [] (r ∷ rs) only =
-    let z = sum_to_none (share side (r ∷ rs) (marked []) h) (length (r ∷ rs)) (λ i l. refl) in omega arith
+    omega (arith, sum_to_none (share side (r ∷ rs) (marked []) h) (length (r ∷ rs)) (λ i l. refl))
 stamp_side side keeps h (b ∷ bs) (r ∷ rs) only =
     let ih = stamp_side side keeps h bs rs (λ i l m. only (suc i) (omega arith) m) in
     let f = sum_to_front (share side (r ∷ rs) (marked (b ∷ bs)) h) (length rs) in
     let e = settled_one SettledMorning refl side keeps h b r (only 0 (omega arith)) in
-    omega arith
+    omega (arith, sum_by-cons (settled_part side h) r rs, sum_by-cons (settled_part side h) (put SettledMorning b r) (stamp bs rs))
 
 pub rest_side : (side : Record → ℕ → Bool) → Stateless side → (h : ℕ) (rs : List Record)
     → settled_side side h (map settled_at_last rs) ≡ settled_side side h rs + sum_to (share side rs (waiting rs) h) (length rs)
@@ -97,34 +99,68 @@ rest_side side keeps h (r ∷ rs) =
     let ih = rest_side side keeps h rs in
     let f = sum_to_front (share side (r ∷ rs) (waiting (r ∷ rs)) h) (length rs) in
     let e = settled_one SettledAfternoon refl side keeps h (waits r.state) r (λ w. w) in
-    omega arith
+    omega (arith, sum_by-cons (settled_part side h) r rs, sum_by-cons (settled_part side h) (settled_at_last r) (map settled_at_last rs))
 
-pub stamp_amount : (bs : List Bool) (rs : List Record) → sum_of (λ r. r.amount) (stamp bs rs) ≡ sum_of (λ r. r.amount) rs
+-- no record's amount changes
+pub on_amount : (z : State) (b : Bool) (r : Record) → (put z b r).amount ≡ r.amount
+on_amount z true r = refl
+on_amount z false r = refl
+
+pub stamp_amount : (bs : List Bool) (rs : List Record) → sum_by (λ r. r.amount) (stamp bs rs) ≡ sum_by (λ r. r.amount) rs
 stamp_amount [] rs = refl
 stamp_amount (b ∷ bs) [] = refl
-stamp_amount (true ∷ bs) (r ∷ rs) = let ih = stamp_amount bs rs in omega arith
-stamp_amount (false ∷ bs) (r ∷ rs) = let ih = stamp_amount bs rs in omega arith
+stamp_amount (b ∷ bs) (r ∷ rs) =
+    omega (arith, stamp_amount bs rs, on_amount SettledMorning b r, sum_by-cons (λ r. r.amount) r rs, sum_by-cons (λ r. r.amount) (put SettledMorning b r) (stamp bs rs))
 
-pub stamp_length : (bs : List Bool) (rs : List Record) → length (stamp bs rs) ≡ length rs
-stamp_length [] rs = refl
-stamp_length (b ∷ bs) [] = refl
-stamp_length (b ∷ bs) (r ∷ rs) = ap suc (stamp_length bs rs)
+pub rest_amount : (rs : List Record) → sum_by (λ r. r.amount) (map settled_at_last rs) ≡ sum_by (λ r. r.amount) rs
+rest_amount rs = sum_kept (λ r. r.amount) settled_at_last rs (λ r. on_amount SettledAfternoon (waits r.state) r)
+
+-- whether a record is by or to the house q and waits
+abbrev goes : ℕ → Record → Bool
+goes q r = waits r.state && (is_from r q || is_to r q)
+
+goes_waits : (q : ℕ) (r : Record) → goes q r ≡ true → waits r.state ≡ true
+goes_waits q r e = (and_parts (waits r.state) _ e).0
+
+pub excluded_amount : (q : ℕ) (rs : List Record) → sum_by (λ r. r.amount) (map (excluded_with q) rs) ≡ sum_by (λ r. r.amount) rs
+excluded_amount q rs = sum_kept (λ r. r.amount) (excluded_with q) rs (λ r. on_amount Excluded (goes q r) r)
+
+excluded_one : (side : Record → ℕ → Bool) (h : ℕ) (b : Bool) (r : Record) → (b ≡ true → waits r.state ≡ true)
+    → settled_part side h (put Excluded b r) ≡ settled_part side h r
+excluded_one side h true r w = ap (λ (x : State). cond (is_settled x && side r h) r.amount 0) (sym (is_waiting r.state (w refl)))
+excluded_one side h false r w = refl
+
+pub excluded_side : (side : Record → ℕ → Bool) (h q : ℕ) (rs : List Record) → settled_side side h (map (excluded_with q) rs) ≡ settled_side side h rs
+excluded_side side h q rs = sum_kept (settled_part side h) (excluded_with q) rs (λ r. excluded_one side h (goes q r) r (goes_waits q r))
 
 -- a record that waits goes on into a state that is not rejected: it was handed in as it was
-on_handed : (z : State) (r : Record) (b : Bool) → is_rejected z ≡ false → (b ≡ true → waits r.state ≡ true)
-    → as_handed_in (cond b (in_state z r) r) ≡ as_handed_in r
-on_handed z r true e w =
-    ap (λ (x : Bool). cond x (in_state z r) (in_state Waiting r)) e
-    ∙ sym (ap (λ (x : Bool). cond x r (in_state Waiting r)) (waits_not_rejected r.state (w refl)))
-on_handed z r false e w = refl
+on_handed : (z : State) → is_rejected z ≡ false → (b : Bool) (r : Record) → (b ≡ true → waits r.state ≡ true)
+    → as_handed_in (put z b r) ≡ as_handed_in r
+on_handed z e true r w = rw (e, is_waiting r.state (w refl)) refl
+on_handed z e false r w = refl
 
 pub stamp_handed : (bs : List Bool) (rs : List Record) → Only rs (marked bs) → map as_handed_in (stamp bs rs) ≡ map as_handed_in rs
 stamp_handed [] rs only = refl
 stamp_handed (b ∷ bs) [] only = refl
 stamp_handed (b ∷ bs) (r ∷ rs) only =
-    let ih = stamp_handed bs rs (λ i l m. only (suc i) (omega arith) m) in
-    let e = on_handed SettledMorning r b refl (only 0 (omega arith)) in
-    ap (λ (x : Record). x ∷ map as_handed_in (stamp bs rs)) e ∙ ap (λ (x : List Record). as_handed_in r ∷ x) ih
+    rw (on_handed SettledMorning refl b r (only 0 (omega arith)), stamp_handed bs rs (λ i l m. only (suc i) (omega arith) m)) refl
+
+pub rest_handed : (r : Record) → as_handed_in (settled_at_last r) ≡ as_handed_in r
+rest_handed r = on_handed SettledAfternoon refl (waits r.state) r (λ w. w)
+
+pub excluded_handed : (q : ℕ) (r : Record) → as_handed_in (excluded_with q r) ≡ as_handed_in r
+excluded_handed q r = on_handed Excluded refl (goes q r) r (goes_waits q r)
+
+on_morning : (z : State) → is_morning z ≡ false → (b : Bool) (r : Record) → (b ≡ true → waits r.state ≡ true)
+    → in_morning (put z b r) ≡ in_morning r
+on_morning z e true r w = rw (e, is_waiting r.state (w refl)) refl
+on_morning z e false r w = refl
+
+pub rest_morning : (r : Record) → in_morning (settled_at_last r) ≡ in_morning r
+rest_morning r = on_morning SettledAfternoon refl (waits r.state) r (λ w. w)
+
+pub excluded_morning : (q : ℕ) (r : Record) → in_morning (excluded_with q r) ≡ in_morning r
+excluded_morning q r = on_morning Excluded refl (goes q r) r (goes_waits q r)
 
 -- what is as it was handed in is not settled in the morning
 fresh_not_morning : (r : Record) → as_handed_in r ≡ r → in_morning r ≡ false
@@ -134,70 +170,19 @@ fresh_not_morning r e =
       | inr a ↦ ap in_morning (sym e) ∙ ap (λ (x : Bool). in_morning (cond x r (in_state Waiting r))) a
     ]
 
-stamped_morning : (b : Bool) (r : Record) → in_morning r ≡ false → in_morning (cond b (in_state SettledMorning r) r) ≡ b
+fresh_at : (rs : List Record) → map as_handed_in rs ≡ rs → (i : ℕ) → i < length rs → in_morning (record_at rs i) ≡ false
+fresh_at rs fresh i l =
+    fresh_not_morning (record_at rs i) (sym (get_or-map as_handed_in rs i blank blank l) ∙ ap (λ (xs : List Record). record_at xs i) fresh)
+
+stamped_morning : (b : Bool) (r : Record) → in_morning r ≡ false → in_morning (put SettledMorning b r) ≡ b
 stamped_morning true r e = refl
 stamped_morning false r e = e
 
 pub stamp_morning : (bs : List Bool) (rs : List Record) → map as_handed_in rs ≡ rs → (i : ℕ) → i < length rs
     → get_or bs i false ≡ get_or (map in_morning (stamp bs rs)) i false
-stamp_morning bs [] fresh i l = absurd (omega arith)
-stamp_morning [] (r ∷ rs) fresh zero l =
-    let e : as_handed_in r ≡ r = ap (λ (xs : List Record). get_or xs 0 r) fresh in sym (fresh_not_morning r e)
-stamp_morning [] (r ∷ rs) fresh (suc i) l =
-    let e : map as_handed_in rs ≡ rs = ap (λ (xs : List Record). drop 1 xs) fresh in stamp_morning [] rs e i (omega arith)
-stamp_morning (b ∷ bs) (r ∷ rs) fresh zero l =
-    let e : as_handed_in r ≡ r = ap (λ (xs : List Record). get_or xs 0 r) fresh in sym (stamped_morning b r (fresh_not_morning r e))
-stamp_morning (b ∷ bs) (r ∷ rs) fresh (suc i) l =
-    let e : map as_handed_in rs ≡ rs = ap (λ (xs : List Record). drop 1 xs) fresh in stamp_morning bs rs e i (omega arith)
-
--- a map over the records that keeps what a second map sees
-pub map_kept : {X : Type 0} (g : Record → X) (f : Record → Record) (rs : List Record) → ((r : Record) → g (f r) ≡ g r)
-    → map g (map f rs) ≡ map g rs
-map_kept g f [] k = refl
-map_kept g f (r ∷ rs) k =
-    ap (λ x. x ∷ map g (map f rs)) (k r) ∙ ap (λ xs. g r ∷ xs) (map_kept g f rs k)
-
-pub rest_handed : (r : Record) → as_handed_in (settled_at_last r) ≡ as_handed_in r
-rest_handed r = on_handed SettledAfternoon r (waits r.state) refl (λ w. w)
-
-concerned_waits : (q : ℕ) (r : Record) → (waits r.state && (is_from r q || is_to r q)) ≡ true → waits r.state ≡ true
-concerned_waits q r e = (and_parts (waits r.state) _ e).0
-
-pub excluded_handed : (q : ℕ) (r : Record) → as_handed_in (excluded_with q r) ≡ as_handed_in r
-excluded_handed q r = on_handed Excluded r (waits r.state && (is_from r q || is_to r q)) refl (concerned_waits q r)
-
-on_morning : (z : State) (r : Record) (b : Bool) → is_morning z ≡ false → (b ≡ true → waits r.state ≡ true)
-    → in_morning (cond b (in_state z r) r) ≡ in_morning r
-on_morning z r true e w = e ∙ sym (waits_not_morning r.state (w refl))
-on_morning z r false e w = refl
-
-pub rest_morning : (r : Record) → in_morning (settled_at_last r) ≡ in_morning r
-rest_morning r = on_morning SettledAfternoon r (waits r.state) refl (λ w. w)
-
-pub excluded_morning : (q : ℕ) (r : Record) → in_morning (excluded_with q r) ≡ in_morning r
-excluded_morning q r = on_morning Excluded r (waits r.state && (is_from r q || is_to r q)) refl (concerned_waits q r)
-
-on_amount : (z : State) (r : Record) (b : Bool) → (cond b (in_state z r) r).amount ≡ r.amount
-on_amount z r true = refl
-on_amount z r false = refl
-
-pub rest_amount : (rs : List Record) → sum_of (λ r. r.amount) (map settled_at_last rs) ≡ sum_of (λ r. r.amount) rs
-rest_amount rs = sum_of_map (λ r. r.amount) settled_at_last rs (λ r. on_amount SettledAfternoon r (waits r.state))
-
-pub excluded_amount : (q : ℕ) (rs : List Record) → sum_of (λ r. r.amount) (map (excluded_with q) rs) ≡ sum_of (λ r. r.amount) rs
-excluded_amount q rs =
-    sum_of_map (λ r. r.amount) (excluded_with q) rs (λ r. on_amount Excluded r (waits r.state && (is_from r q || is_to r q)))
-
-excluded_one : (side : Record → ℕ → Bool) (h : ℕ) (b : Bool) (r : Record) → (b ≡ true → waits r.state ≡ true)
-    → cond (is_settled (cond b (in_state Excluded r) r).state && side (cond b (in_state Excluded r) r) h) (cond b (in_state Excluded r) r).amount 0
-    ≡ cond (is_settled r.state && side r h) r.amount 0
-excluded_one side h true r w = ap (λ (x : Bool). cond (x && side r h) r.amount 0) (sym (waits_not_settled r.state (w refl)))
-excluded_one side h false r w = refl
-
-pub excluded_side : (side : Record → ℕ → Bool) (h q : ℕ) (rs : List Record) → settled_side side h (map (excluded_with q) rs) ≡ settled_side side h rs
-excluded_side side h q rs =
-    sum_of_map (λ r. cond (is_settled r.state && side r h) r.amount 0) (excluded_with q) rs
-    (λ r. excluded_one side h (waits r.state && (is_from r q || is_to r q)) r (concerned_waits q r))
+stamp_morning bs rs fresh i l =
+    sym (get_or-map in_morning (stamp bs rs) i blank false (omega (arith, length_stamp bs rs)) ∙ ap in_morning (stamp_at bs rs i l)
+    ∙ stamped_morning (get_or bs i false) (record_at rs i) (fresh_at rs fresh i l))
 
 -- records of which none is settled or excluded
 untouched_rest : (r : Record) (new : List Record) → Untouched (r ∷ new) → Untouched new
@@ -206,29 +191,28 @@ untouched_rest r new un i l = un (suc i) (omega arith)
 pub new_side : (side : Record → ℕ → Bool) (h : ℕ) (new : List Record) → Untouched new → settled_side side h new ≡ 0
 new_side side h [] un = refl
 new_side side h (r ∷ new) un =
-    let ih = new_side side h new (untouched_rest r new un) in
-    let z : cond (is_settled r.state && side r h) r.amount 0 ≡ 0 = ap (λ (x : Bool). cond (x && side r h) r.amount 0) (un 0 (omega arith)).0 in
-    omega arith
+    let z : settled_part side h r ≡ 0 = ap (λ (x : Bool). cond (x && side r h) r.amount 0) (un 0 (omega arith)).0 in
+    omega (arith, new_side side h new (untouched_rest r new un), sum_by-cons (settled_part side h) r new)
 
 untouched_handed : (r : Record) (s : State) → r.state ≡ s → is_settled s ≡ false → is_excluded s ≡ false → as_handed_in r ≡ r
 untouched_handed r (Rejected c m f w) e a b = ap (λ (x : State). cond (is_rejected x) r (in_state Waiting r)) e
 untouched_handed r Waiting e a b = ap (λ (x : State). cond (is_rejected x) r (in_state Waiting r)) e ∙ ap (λ (x : State). in_state x r) (sym e)
-untouched_handed r SettledMorning e a b = absurd (both_ways true a refl)
-untouched_handed r SettledAfternoon e a b = absurd (both_ways true a refl)
-untouched_handed r Excluded e a b = absurd (both_ways true b refl)
+untouched_handed r SettledMorning e a b = cc
+untouched_handed r SettledAfternoon e a b = cc
+untouched_handed r Excluded e a b = cc
 
 pub new_handed : (new : List Record) → Untouched new → map as_handed_in new ≡ new
 new_handed [] un = refl
 new_handed (r ∷ new) un =
     let o = un 0 (omega arith) in
-    ap (λ (x : Record). x ∷ map as_handed_in new) (untouched_handed r r.state refl o.0 o.1)
-    ∙ ap (λ (xs : List Record). r ∷ xs) (new_handed new (untouched_rest r new un))
+    rw (untouched_handed r r.state refl o.0 o.1, new_handed new (untouched_rest r new un)) refl
 
 none_morning : (new : List Record) → map as_handed_in new ≡ new → (i : ℕ) → false ≡ get_or (map in_morning new) i false
-none_morning [] fresh i = refl
-none_morning (r ∷ new) fresh zero =
-    let e : as_handed_in r ≡ r = ap (λ (xs : List Record). get_or xs 0 r) fresh in sym (fresh_not_morning r e)
-none_morning (r ∷ new) fresh (suc i) = none_morning new (ap (λ (xs : List Record). drop 1 xs) fresh) i
+none_morning new fresh i =
+    elim (cases_lt i (length new)) [
+      | inl l ↦ sym (get_or-map in_morning new i blank false l ∙ fresh_at new fresh i l)
+      | inr l ↦ sym (get_or_past (map in_morning new) i false (omega (arith, length-map new in_morning)))
+    ]
 
 pub new_morning : (rs new : List Record) → Untouched new → (i : ℕ)
     → get_or (map in_morning rs) i false ≡ get_or (map in_morning (rs ++ new)) i false

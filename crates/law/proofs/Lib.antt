@@ -1,4 +1,3 @@
-mod Sums
 mod Amounts
 mod Invariant
 mod Steps

@@ -1,24 +1,21 @@
 -- Each call keeps what holds of a day.
-use Rattle.std.proofs.Common.{◌≡◌, ℕ, ◌+◌, ◌<◌, Bool, false, cond, eqb, ◌≢◌, ◌⊎◌, List, [], ◌∷◌, ◌++◌, map, length, get_or, take, set, sym, refl, ap, ◌∙◌, subst, inl, inr, arith}
-use Rattle.std.proofs.lemmas.Bool.Decides.{eqb_tells, nat_tests}
+use Rattle.std.proofs.Common.{◌≡◌, ℕ, ◌+◌, ◌<◌, Bool, false, cond, eqb, ◌⊎◌, List, [], ◌∷◌, ◌++◌, map, length, get_or, take, set, sum_by, Ok, Err, sym, refl, ap, ◌∙◌, inl, inr, arith}
+use Rattle.std.proofs.lemmas.List.Sums.{sum_by-append}
+use Rattle.std.proofs.lemmas.Bool.Decides.{eqb_tells}
 use Rattle.std.proofs.lemmas.List.{length-map, length-append, length-set, map-append, append-nil, take_all, get_or_past, get_or-set_same, get_or-set_other}
-use Rattle.std.proofs.lemmas.Bool.{and_right, cond-false, false≢true}
-use Rattle.keeper.specs.declared.answer.PayInAnswer.TheVariants as paid
+use Rattle.std.proofs.lemmas.Bool.{and_right, cond-false}
 use Rattle.records.specs.declared.recorded.Record.{Record}
 use Rattle.netting.specs.Payments.{waiting, is_from, is_to}
 use Rattle.netting.specs.Selections.{marked, sent, received, Chosen}
 use Rattle.netting.specs.Outcomes.{Booked, Morning}
 use Rattle.netting.proofs.Choice.{greatest_is_chosen, chosen_same}
 use Rattle.day.specs.Changes.{stamp, settled_at_last, excluded_with}
-use Rattle.day.specs.declared.answer.CalculateAnswer.TheVariants as calculate
-use Rattle.day.specs.declared.answer.SettleAnswer.TheVariants as settle
-use Rattle.day.specs.declared.answer.ExcludeAnswer.TheVariants as exclude
+use Rattle.day.proofs.Stores.{length_stamp}
 use Rattle.law.specs.History.{Event, handed_in, calculated, settled, excluded, paid_in, taken, settles, is_settle, control_of, messages_of, pay_in_for, over_taken, covers_paid_by}
-use Rattle.law.specs.Runs.{sum_of, Untouched}
+use Rattle.law.specs.Runs.{Untouched}
 use Rattle.law.specs.Laws.{settled_by, settled_to, as_handed_in, in_morning, Judged, Kept}
-use Rattle.law.proofs.Sums.{sum_of_append}
-use Rattle.law.proofs.Amounts.{Stateless, by_state, stamp_side, stamp_amount, stamp_length, stamp_handed, stamp_morning, rest_side, map_kept, rest_handed, rest_morning, rest_amount, excluded_handed, excluded_morning, excluded_amount, excluded_side, new_side, new_handed, new_morning}
-use Rattle.law.proofs.Invariant.{MorningLaw, Early, Inv, Grows, Advance, morning_now, morning_at}
+use Rattle.law.proofs.Amounts.{Stateless, by_state, stamp_side, stamp_amount, stamp_handed, stamp_morning, rest_side, map_kept, rest_handed, rest_morning, rest_amount, excluded_handed, excluded_morning, excluded_amount, excluded_side, new_side, new_handed, new_morning}
+use Rattle.law.proofs.Invariant.{Early, Inv, Grows, Advance, morning_now, morning_at}
 
 from_stateless : Stateless is_from
 from_stateless s r h = refl
@@ -43,9 +40,8 @@ paid_denied (handed_in control messages number) cs d = refl
 paid_denied (calculated r) cs d = refl
 paid_denied (settled r) cs d = refl
 paid_denied (excluded place r) cs d = refl
-paid_denied (paid_in place amount paid.Taken) cs d = absurd (false≢true (sym d))
-paid_denied (paid_in place amount paid.NoSuchHouse) cs d = refl
-paid_denied (paid_in place amount paid.Refused) cs d = refl
+paid_denied (paid_in place amount (Ok done)) cs d = cc
+paid_denied (paid_in place amount (Err denial)) cs d = refl
 
 -- a call that is denied
 pub denied : (e : Event) (p : ℕ) (rs : List Record) (cs : List ℕ) → taken e ≡ false → Advance e p rs cs p rs cs
@@ -63,16 +59,16 @@ denied e p rs cs d =
 
 -- a file that is accepted
 pub accepted : (control messages p : ℕ) (new rs : List Record) (cs : List ℕ) → length new ≡ messages
-    → sum_of (λ r. r.amount) new ≡ control → Untouched new → Advance (handed_in control messages 0) p rs cs p (rs ++ new) cs
+    → sum_by (λ r. r.amount) new ≡ control → Untouched new → Advance (handed_in control messages 0) p rs cs p (rs ++ new) cs
 accepted control messages p new rs cs count total un =
     record {
       long = refl;
       quiet = inl refl;
-      controls = let x = sum_of_append (λ r. r.amount) rs new in omega arith;
+      controls = let x = sum_by-append (λ r. r.amount) rs new in omega arith;
       paid = λ h l.
-          let x : settled_by h (rs ++ new) ≡ settled_by h rs + settled_by h new = sum_of_append _ rs new in
+          let x : settled_by h (rs ++ new) ≡ settled_by h rs + settled_by h new = sum_by-append _ rs new in
           let y : settled_by h new ≡ 0 = new_side is_from h new un in
-          let u : settled_to h (rs ++ new) ≡ settled_to h rs + settled_to h new = sum_of_append _ rs new in
+          let u : settled_to h (rs ++ new) ≡ settled_to h rs + settled_to h new = sum_by-append _ rs new in
           let v : settled_to h new ≡ 0 = new_side is_to h new un in
           omega arith;
       grows = record {
@@ -84,16 +80,14 @@ accepted control messages p new rs cs count total un =
         l,
         refl,
         refl,
-        (λ f. map-append as_handed_in rs new
-            ∙ ap (λ (xs : List Record). xs ++ map as_handed_in new) f
-            ∙ ap (λ (xs : List Record). rs ++ xs) (new_handed new un)),
+        (λ f. rw (map-append as_handed_in rs new, f, new_handed new un) refl),
         (let x = length-append rs new in omega arith),
       );
       late = λ l. l;
     }
 
 pub collected : (p : ℕ) (rs : List Record) (cs : List ℕ) → (p ≡ 1) ⊎ (p ≡ 3)
-    → Advance (calculated calculate.Calculated) p rs cs (p + 1) rs cs
+    → Advance (calculated (Ok tt)) p rs cs (p + 1) rs cs
 collected p rs cs which =
     record {
       long = refl;
@@ -108,17 +102,11 @@ collected p rs cs which =
 set_gain : (xs : List ℕ) (q n h : ℕ) → h < length xs → get_or (set xs q (get_or xs q 0 + n)) h 0 ≡ get_or xs h 0 + cond (eqb q h) n 0
 set_gain xs q n h l =
     elim (eqb_tells q h) [
-      | inl e ↦
-          let k = e.1 in
-          let s : get_or (set xs q (get_or xs q 0 + n)) q 0 ≡ get_or xs q 0 + n = get_or-set_same xs q (get_or xs q 0 + n) 0 (omega arith) in
-          grind (arith, nat_tests)
-      | inr e ↦
-          let ne : h ≢ q = λ x. e.1 (sym x) in
-          let s : get_or (set xs q (get_or xs q 0 + n)) h 0 ≡ get_or xs h 0 = get_or-set_other xs q h (get_or xs q 0 + n) 0 ne in
-          grind (arith, nat_tests)
+      | inl e ↦ rw (e.0, e.1) (get_or-set_same xs h (get_or xs h 0 + n) 0 l)
+      | inr e ↦ rw (e.0, get_or-set_other xs q h (get_or xs q 0 + n) 0 (λ x. e.1 (sym x))) (omega arith)
     ]
 
-pub cover_paid : (q a p : ℕ) (rs : List Record) (cs : List ℕ) → Advance (paid_in q a paid.Taken) p rs cs p rs (set cs q (get_or cs q 0 + a))
+pub cover_paid : (q a p : ℕ) (rs : List Record) (cs : List ℕ) → Advance (paid_in q a (Ok tt)) p rs cs p rs (set cs q (get_or cs q 0 + a))
 cover_paid q a p rs cs =
     record {
       long = length-set cs q _;
@@ -131,7 +119,7 @@ cover_paid q a p rs cs =
     }
 
 pub left_out : (q p : ℕ) (rs : List Record) (cs : List ℕ) → p ≡ 4
-    → Advance (excluded q exclude.Excluded) p rs cs p (map (excluded_with q) rs) cs
+    → Advance (excluded q (Ok tt)) p rs cs p (map (excluded_with q) rs) cs
 left_out q p rs cs four =
     record {
       long = refl;
@@ -147,7 +135,7 @@ left_out q p rs cs four =
     }
 
 pub rest : (p : ℕ) (rs : List Record) (cs : List ℕ) (n : ℕ) (cs' : List ℕ) (n' : ℕ) → p ≡ 4 → Booked rs (waiting rs) cs n cs' n'
-    → Advance (settled settle.Settled) p rs cs 5 (map settled_at_last rs) cs'
+    → Advance (settled (Ok tt)) p rs cs 5 (map settled_at_last rs) cs'
 rest p rs cs n cs' n' four s =
     record {
       long = s.houses;
@@ -168,7 +156,7 @@ judged : (opening : List ℕ) (t : List Event) (rs : List Record) (marks : List 
     → Early opening t rs cs → Morning rs marks cs n cs' n' → Judged opening t (stamp marks rs)
 judged opening t rs marks cs n cs' n' y s =
     let c = y.count in
-    let m = stamp_length marks rs in
+    let m = length_stamp marks rs in
     let k : length (map in_morning (stamp marks rs)) ≡ length (stamp marks rs) = length-map (stamp marks rs) in_morning in
     let e : map as_handed_in (stamp marks rs) ≡ rs = stamp_handed marks rs s.greatest.admissible.only ∙ y.fresh in
     let f : take (over_taken messages_of t) (map as_handed_in (stamp marks rs)) ≡ rs =
@@ -183,7 +171,7 @@ judged opening t rs marks cs n cs' n' y s =
     }
 
 pub morning_settled : (opening : List ℕ) (t : List Event) (p : ℕ) (rs : List Record) (marks : List Bool) (cs : List ℕ) (n : ℕ) (cs' : List ℕ) (n' : ℕ)
-    → Inv opening t p rs cs → p ≡ 2 → Morning rs marks cs n cs' n' → Inv opening (settled settle.Settled ∷ t) 3 (stamp marks rs) cs'
+    → Inv opening t p rs cs → p ≡ 2 → Morning rs marks cs n cs' n' → Inv opening (settled (Ok tt) ∷ t) 3 (stamp marks rs) cs'
 morning_settled opening t p rs marks cs n cs' n' i two s =
     let y = i.early (omega arith) in
     let only = s.greatest.admissible.only in
@@ -197,7 +185,7 @@ morning_settled opening t p rs marks cs n cs' n' i two s =
           let z = s.booked.covers h (omega arith) in
           let v = i.paid h l in
           omega arith;
-      morning = morning_now opening (settled settle.Settled) t (stamp marks rs) y.none refl (judged opening t rs marks cs n cs' n' y s);
+      morning = morning_now opening (settled (Ok tt)) t (stamp marks rs) y.none refl (judged opening t rs marks cs n cs' n' y s);
       early = λ l. absurd (omega arith);
       late = λ l. refl;
     }
@@ -218,7 +206,7 @@ opened opening =
 pub kept : (opening : List ℕ) (t : List Event) (p : ℕ) (rs : List Record) (cs : List ℕ) → Inv opening t p rs cs → Kept opening t rs cs
 kept opening t p rs cs i =
     record {
-      morning = λ later before e q s n. morning_at opening later e before rs s n (subst (λ (x : List Event). MorningLaw opening x rs) q i.morning);
+      morning = λ later before e q s n. morning_at opening later e before rs s n (rw (← q) i.morning);
       controls = i.controls ∙ by_state rs;
       houses = i.long;
       cover = i.paid;

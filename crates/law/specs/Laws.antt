@@ -1,5 +1,5 @@
 -- The laws of a day, over what has happened in it.
-use Rattle.std.specs.Prelude.{◌≡◌, ℕ, ◌+◌, ◌<◌, ◌≤◌, Bool, true, false, cond, ◌&&◌, List, ◌∷◌, ◌++◌, map, length, take, slice_index, slice_index_or}
+use Rattle.std.specs.Prelude.{◌≡◌, ℕ, ◌+◌, ◌<◌, ◌≤◌, Bool, true, false, cond, ◌&&◌, List, ◌∷◌, ◌++◌, map, length, take, slice_index, slice_index_or, sum_by, Ok}
 use Rattle.records.specs.States.{waits, is_rejected, is_morning, is_settled, is_excluded}
 use Rattle.records.specs.declared.recorded.Record.{Record}
 use Rattle.records.specs.declared.state.State.{State}
@@ -10,9 +10,8 @@ use Rattle.day.specs.Changes.{in_state}
 use Rattle.day.specs.Scene.{Scene}
 use Rattle.day.specs.Settling.{Settles}
 use Rattle.day.specs.declared.phase.Phase.TheVariants.{MorningCalculated}
-use Rattle.day.specs.declared.answer.SettleAnswer.TheVariants.{Settled}
 use Rattle.law.specs.History.{Event, settles, some_settles, control_of, messages_of, pay_in_for, over_taken, covers_paid_in}
-use Rattle.law.specs.Runs.{sum_of, at_opening, Ran}
+use Rattle.law.specs.Runs.{at_opening, Ran}
 
 -- settled in the morning
 abbrev pub in_morning : Record → Bool
@@ -20,11 +19,11 @@ in_morning r = is_morning r.state
 
 -- the amounts of the records in such a state
 abbrev pub amounts : (State → Bool) → List Record → ℕ
-amounts is rs = sum_of (λ r. cond (is r.state) r.amount 0) rs
+amounts is rs = sum_by (λ r. cond (is r.state) r.amount 0) rs
 
 -- the amounts settled where the house h is on that side
 abbrev pub settled_side : (Record → ℕ → Bool) → ℕ → List Record → ℕ
-settled_side side h rs = sum_of (λ r. cond (is_settled r.state && side r h) r.amount 0) rs
+settled_side side h rs = sum_by (λ r. cond (is_settled r.state && side r h) r.amount 0) rs
 
 -- settled by the house h
 abbrev pub settled_by : ℕ → List Record → ℕ
@@ -67,5 +66,5 @@ LawOfTheDay = (opening : List ℕ) (sittings : ℕ) (events : List Event) (last 
 -- each house is left with the same cover. So it makes no difference which short houses they name on the way.
 abbrev pub SameMorning : Type 0
 SameMorning = (houses houses' : ℕ) (a a' b b' : Scene) → a.phase ≡ MorningCalculated → a'.phase ≡ MorningCalculated
-    → a'.records ≡ a.records → a'.covers ≡ a.covers → Settles houses Settled a b → Settles houses' Settled a' b'
+    → a'.records ≡ a.records → a'.covers ≡ a.covers → Settles houses (Ok tt) a b → Settles houses' (Ok tt) a' b'
     → (b'.records ≡ b.records) × ((h : ℕ) → h < length a.covers → slice_index b'.covers h ≡ slice_index b.covers h)

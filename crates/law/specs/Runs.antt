@@ -1,5 +1,5 @@
 -- What each call does to a day and its keeper, by the definitions of its own promise; and runs of calls.
-use Rattle.std.specs.Prelude.{◌≡◌, ℕ, ◌+◌, ◌<◌, false, List, [], ◌∷◌, ◌++◌, length, None, MatchBool, ◌==◌}
+use Rattle.std.specs.Prelude.{◌≡◌, ℕ, ◌<◌, false, List, [], ◌∷◌, ◌++◌, length, None, MatchBool, ◌==◌, sum_by}
 use Rattle.keeper.specs.PayIns.{pay_in_answer, covers_paid}
 use Rattle.records.specs.Records.{record_at}
 use Rattle.records.specs.States.{is_settled, is_excluded}
@@ -9,11 +9,6 @@ use Rattle.day.specs.Scene.{Scene}
 use Rattle.day.specs.Settling.{Settles, Unmoved}
 use Rattle.day.specs.declared.phase.Phase.TheVariants.{MorningCollecting}
 use Rattle.law.specs.History.{Event, handed_in, calculated, settled, excluded, paid_in}
-
--- the sum of f over a list
-abbrev pub sum_of : {X : Type 0} → (X → ℕ) → List X → ℕ
-sum_of f [] = 0
-sum_of f (x ∷ xs) = f x + sum_of f xs
 
 -- a day just opened
 abbrev pub at_opening : List ℕ → ℕ → Scene
@@ -28,7 +23,7 @@ Untouched new = (i : ℕ) → i < length new → (is_settled (record_at new i).s
 pub record Accepted (control messages : ℕ) (a b : Scene) : Type 0 where
   pub new : List Record
   pub count : length new ≡ messages
-  pub total : sum_of (λ r. r.amount) new ≡ control
+  pub total : sum_by (λ r. r.amount) new ≡ control
   pub untouched : Untouched new
   pub records : b.records ≡ a.records ++ new
   pub phase : b.phase ≡ a.phase

@@ -3,7 +3,7 @@ use Rattle.std.proofs.Common.{◌≡◌, ℕ, ◌+◌, ◌<◌, ◌≤◌, Bool,
 use Rattle.std.proofs.lemmas.Bool.Decides.{nat_tests}
 use Rattle.std.proofs.lemmas.Bool.{cases_Bool, both_ways, eqb-true}
 use Rattle.netting.specs.Sums.{sum_to}
-use Rattle.netting.specs.Payments.{waiting, is_from, is_to}
+use Rattle.netting.specs.Payments.{is_from, is_to}
 use Rattle.netting.specs.Selections.{Selection, Inside, share, sent, received, Only, Closed, Covered, Admissible, Greatest}
 use Rattle.netting.specs.Steps.{Standing, Latest, NoneFrom, Without, count}
 use Rattle.records.specs.Records.{record_at}
@@ -75,10 +75,6 @@ standing_without rs covers S R h p stands k short latest out =
           let other : i ≡ p → ⊥ = λ q. none_holds rs covers A S h p stands.only ok within k short latest (ap A (sym q) ∙ a) in
           out.rest i other ∙ within i l a;
     }
-
-pub standing_all : (rs : List Record) (covers : List ℕ) (S : Selection) → ((i : ℕ) → i < length rs → S i ≡ waiting rs i)
-    → Standing rs covers S
-standing_all rs covers S all = record { only = λ i l s. sym (all i l) ∙ s; closed = λ i j li lj b w e s. all i li ∙ w; holds = λ A ok i l a. all i l ∙ ok.only i l a }
 
 pub greatest : (rs : List Record) (covers : List ℕ) (S : Selection) → Standing rs covers S → Covered rs covers S
     → Greatest rs covers S

@@ -6,5 +6,4 @@ mod Shifts
 mod Cuts
 pub mod Choice
 mod Settles
-mod Turns
 mod Mornings

@@ -1,7 +1,6 @@
 -- The laws of the greatest admissible selection.
-use Rattle.std.specs.Prelude.{◌≡◌, ℕ, ◌<◌, ◌≤◌, Bool, List, length, ℤ, slice_index}
+use Rattle.std.specs.Prelude.{◌≡◌, ℕ, ◌<◌, ◌≤◌, Bool, List, length, ℤ, slice_index, Ok}
 use Rattle.keeper.specs.Offers.{Sound}
-use Rattle.keeper.specs.declared.answer.OfferAnswer.TheVariants.{Taken}
 use Rattle.records.specs.declared.recorded.Record.{Record}
 use Rattle.netting.specs.Payments.{Listed}
 use Rattle.netting.specs.Outcomes.{MorningSettled}
@@ -14,7 +13,7 @@ OneGreatest = (rs : List Record) (covers : List ℕ) (S R : Selection) → Great
 -- so two keepers with the same covers, of whatever kinds, settle the same payments in the morning and are left with the same covers
 abbrev pub SameMorning : Type 0
 SameMorning = (rs : List Record) (covers : List ℕ) (marks marks' : List Bool) (sittings sittings' left left' : ℕ) (after after' : List ℕ)
-    → MorningSettled rs marks covers sittings after left Taken → MorningSettled rs marks' covers sittings' after' left' Taken
+    → MorningSettled rs marks covers sittings after left (Ok tt) → MorningSettled rs marks' covers sittings' after' left' (Ok tt)
     → Same rs (marked marks) (marked marks') × ((h : ℕ) → h < length covers → slice_index after h ≡ slice_index after' h)
 
 -- the greatest selection is the chosen one

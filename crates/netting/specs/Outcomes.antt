@@ -1,7 +1,7 @@
 -- What the two settlements leave, answer for answer.
-use Rattle.std.specs.Prelude.{◌≡◌, ℕ, suc, ◌+◌, ◌<◌, Bool, List, length, slice_index}
-use Rattle.keeper.specs.declared.answer.OfferAnswer.{OfferAnswer}
-use Rattle.keeper.specs.declared.answer.OfferAnswer.TheVariants.{Taken, Unsound, NoSitting, Short}
+use Rattle.std.specs.Prelude.{◌≡◌, ℕ, suc, ◌+◌, ◌<◌, Bool, List, length, slice_index, Ok, Err}
+use Rattle.keeper.specs.Offers.{OfferAnswer}
+use Rattle.keeper.specs.declared.answer.OfferDenial.TheVariants.{Unsound, NoSitting, Short}
 use Rattle.records.specs.declared.recorded.Record.{Record}
 use Rattle.netting.specs.Payments.{waiting}
 use Rattle.netting.specs.Selections.{Selection, marked, sent, received, debit, Greatest}
@@ -19,10 +19,10 @@ pub record Morning (rs : List Record) (marks : List Bool) (before : List ℕ) (s
 
 -- The answers of a morning: it is settled, or no sitting was left; no offer of it is unsound, and in the end no house is short.
 abbrev pub MorningSettled : List Record → List Bool → List ℕ → ℕ → List ℕ → ℕ → OfferAnswer → Type 0
-MorningSettled rs marks before sittings after left Taken = Morning rs marks before sittings after left
-MorningSettled rs marks before sittings after left NoSitting = sittings ≡ 0
-MorningSettled rs marks before sittings after left Unsound = ⊥
-MorningSettled rs marks before sittings after left (Short place cover) = ⊥
+MorningSettled rs marks before sittings after left (Ok done) = Morning rs marks before sittings after left
+MorningSettled rs marks before sittings after left (Err NoSitting) = sittings ≡ 0
+MorningSettled rs marks before sittings after left (Err Unsound) = ⊥
+MorningSettled rs marks before sittings after left (Err (Short place cover)) = ⊥
 
 -- the house at the place has this cover, and its debit under all that waits is above it
 pub record ShortOfAll (rs : List Record) (covers : List ℕ) (place cover : ℕ) : Type 0 where
@@ -32,7 +32,7 @@ pub record ShortOfAll (rs : List Record) (covers : List ℕ) (place cover : ℕ)
 
 -- All that waits at once: it is booked, or no sitting is left, or a house is short.
 abbrev pub AllOffered : List Record → List ℕ → ℕ → List ℕ → ℕ → OfferAnswer → Type 0
-AllOffered rs before sittings after left Taken = Booked rs (waiting rs) before sittings after left
-AllOffered rs before sittings after left NoSitting = sittings ≡ 0
-AllOffered rs before sittings after left Unsound = ⊥
-AllOffered rs before sittings after left (Short place cover) = (0 < sittings) × ShortOfAll rs before place cover
+AllOffered rs before sittings after left (Ok done) = Booked rs (waiting rs) before sittings after left
+AllOffered rs before sittings after left (Err NoSitting) = sittings ≡ 0
+AllOffered rs before sittings after left (Err Unsound) = ⊥
+AllOffered rs before sittings after left (Err (Short place cover)) = (0 < sittings) × ShortOfAll rs before place cover

@@ -10,9 +10,10 @@ use records::Record;
 fn received_by(p: Record, house: usize) -> u64
     ensures { result ≡ (if is_to p house then p.amount else 0) }
 {
-    match p.receiver {
-        Some(h) if h == house => p.amount,
-        _ => 0,
+    if p.receiver == Some(house) {
+        p.amount
+    } else {
+        0
     }
 }
 
@@ -29,12 +30,13 @@ pub fn position(records: &[Record], house: usize) -> i64
     requires small { (i : ℕ) → i < length records.now → waiting records.now i ≡ true → (record_at records.now i).amount ≤ most_cents }
     ensures { result ≡ position_of records.now (waiting records.now) house }
 {
+    // one walk for both sums
     let mut received: u64 = 0;
     let mut sent: u64 = 0;
-    for i in 0..records.len() {
-        if records[i].state.is_waiting() {
-            received += received_by(records[i], house);
-            sent += sent_by(records[i], house);
+    for r in records {
+        if r.state.is_waiting() {
+            received += received_by(*r, house);
+            sent += sent_by(*r, house);
         }
     }
     received as i64 - sent as i64

@@ -2,7 +2,7 @@
 use crate::state::State;
 use names::kinds::FileKind;
 
-#[derive(Clone, Copy)]
+#[derive(Clone, Copy, PartialEq, Eq, Debug)]
 pub struct Record {
     // the place of the house that handed it in
     pub sender: usize,

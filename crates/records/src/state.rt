@@ -2,9 +2,10 @@
 ghost use Rattle.std.specs.Prelude.{◌≡◌};
 ghost use Rattle.records.specs.States.{waits, is_rejected, is_settled, is_excluded};
 
-#[derive(Clone, Copy)]
+#[derive(Clone, Copy, PartialEq, Eq, Debug)]
 pub enum State {
-    // refused when it was handed in: the code, and the message, field and row that it is about
+    // refused when it was handed in: the code, and the message, field and row that it is about,
+    // plain numbers, so that a record knows nothing of how a message is judged
     Rejected {
         code: u16,
         message: u16,
@@ -23,36 +24,24 @@ impl State {
     pub fn is_waiting(self) -> bool
         ensures { result ≡ waits self }
     {
-        match self {
-            State::Waiting => true,
-            _ => false,
-        }
+        matches!(self, State::Waiting)
     }
 
     pub fn is_rejected(self) -> bool
         ensures { result ≡ is_rejected self }
     {
-        match self {
-            State::Rejected { .. } => true,
-            _ => false,
-        }
+        matches!(self, State::Rejected { .. })
     }
 
     pub fn is_settled(self) -> bool
         ensures { result ≡ is_settled self }
     {
-        match self {
-            State::SettledMorning | State::SettledAfternoon => true,
-            _ => false,
-        }
+        matches!(self, State::SettledMorning | State::SettledAfternoon)
     }
 
     pub fn is_excluded(self) -> bool
         ensures { result ≡ is_excluded self }
     {
-        match self {
-            State::Excluded => true,
-            _ => false,
-        }
+        matches!(self, State::Excluded)
     }
 }
