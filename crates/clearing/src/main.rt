@@ -3,14 +3,14 @@
 
 #![tactic(auto)]
 
-use keeper::{CoverAnswer, Keeper, OfferAnswer};
+use keeper::{Keeper, Numbered, OfferAnswer, OfferDenial};
 use script::command::{Command, LineError};
 use script::read::read_line;
 use session::{AnyBook, Session};
 use std::alloc::Global;
-use std::io;
 use std::io::{BufRead, BufReader, BufWriter, Write};
 use std::process::ExitCode;
+use std::{fmt, io};
 
 #[cfg(test)]
 mod tests;
@@ -24,11 +24,11 @@ enum Stop {
     Io(io::Error),
 }
 
-impl Stop {
-    fn why(&self) -> &'static str {
+impl fmt::Display for Stop {
+    fn fmt<W: fmt::Write>(&self, f: &mut fmt::Formatter<W>) -> fmt::Result {
         match self {
-            Stop::Line(e) => e.why(),
-            Stop::Io(_) => "input or output failed",
+            Stop::Line(e) => write!(f, "{e}"),
+            Stop::Io(_) => write!(f, "input or output failed"),
         }
     }
 }
@@ -46,31 +46,28 @@ impl From<io::Error> for Stop {
 }
 
 // A call and the number that it was answered.
-fn print_number<W: Write>(out: &mut W, call: &str, number: u8) -> io::Result<()> {
+fn print_answer<W: Write>(out: &mut W, call: &str, answer: &impl Numbered) -> io::Result<()> {
+    let number = answer.number();
     writeln!(out, "{call}: {number}")
 }
 
+// An answer is a Result of the library's, to which no Display of ours can be given: so a function prints it.
 fn print_offer<W: Write>(out: &mut W, answer: OfferAnswer) -> io::Result<()> {
     let number = answer.number();
-    match answer {
-        OfferAnswer::Short { place, cover } => {
-            writeln!(out, "offer: {number}, house {place}, cover {cover}")
-        }
-        _ => print_number(out, "offer", number),
+    write!(out, "offer: {number}")?;
+    if let Err(OfferDenial::Short { place, cover }) = answer {
+        write!(out, ", house {place}, cover {cover}")?;
     }
-}
-
-fn print_cover<W: Write>(out: &mut W, answer: CoverAnswer) -> io::Result<()> {
-    match answer {
-        CoverAnswer::Cover(cover) => write!(out, " {cover}"),
-        CoverAnswer::NoSuchHouse => Ok(()),
-    }
+    writeln!(out)
 }
 
 fn print_covers<W: Write>(out: &mut W, book: &AnyBook) -> io::Result<()> {
     write!(out, "covers:")?;
+    // a keeper is asked for a cover by its house's place
     for place in 0..book.houses() {
-        print_cover(out, book.cover(place))?;
+        if let Ok(cover) = book.cover(place) {
+            write!(out, " {cover}")?;
+        }
     }
     let sittings = book.sittings_left();
     writeln!(out, ", sittings {sittings}")
@@ -89,13 +86,15 @@ fn carry_out<W: Write>(
             sittings,
             sums,
         } => {
-            let answer = session.open_book(heap, kind, sittings, &sums)?;
-            print_number(out, "book", answer.number())?;
+            print_answer(
+                out,
+                "book",
+                &session.open_book(heap, kind, sittings, &sums)?,
+            )?
         }
         Command::Offer { positions } => print_offer(out, session.offer(&positions)?)?,
         Command::PayIn { place, cents } => {
-            let answer = session.pay_in(place, cents)?;
-            print_number(out, "pay-in", answer.number())?;
+            print_answer(out, "pay-in", &session.pay_in(place, cents)?)?
         }
         Command::Covers => print_covers(out, session.book()?)?,
     }
@@ -105,8 +104,7 @@ fn carry_out<W: Write>(
 // Says on standard error why the program stops, after all that was printed before.
 fn report<W: Write>(rt: &impl Eprint, out: &mut W, number: usize, stop: &Stop) -> io::Result<()> {
     out.flush()?;
-    let why = stop.why();
-    eprintln!(rt; "line {number}: {why}")
+    eprintln!(rt; "line {number}: {stop}")
 }
 
 fn main(rt: HostRuntime) -> io::Result<ExitCode> {
@@ -117,10 +115,9 @@ fn main(rt: HostRuntime) -> io::Result<ExitCode> {
         .split(heap, b'\n')
         .enumerate()
     {
-        let carried = match line {
-            Ok(text) => carry_out(&mut out, heap, &mut session, &text),
-            Err(e) => Err(Stop::Io(e)),
-        };
+        let carried = line
+            .map_err(Stop::Io)
+            .and_then(|text| carry_out(&mut out, heap, &mut session, &text));
         if let Err(stop) = carried {
             report(&rt, &mut out, i.saturating_add(1), &stop)?;
             return Ok(ExitCode::FAILURE);

@@ -1,30 +1,47 @@
 -- A text is cut into its words one by one, and the words are all that splits it.
-use Rattle.std.proofs.Common.{◌≡◌, ℕ, ◌+◌, ◌<◌, ◌≤◌, Bool, true, false, cond, not, eqb, List, [], ◌∷◌, ◌++◌, length, take, drop, sym, refl, ap, ◌∙◌, one-add, arith}
+use Rattle.std.proofs.Common.{◌≡◌, ℕ, ◌+◌, ◌<◌, ◌≤◌, Bool, true, false, cond, not, eqb, List, [], ◌∷◌, ◌++◌, length, take, drop, Some, None, Option, Bor, sym, refl, ap, ◌∙◌, one-add, arith}
 use Rattle.std.specs.List.{flat_map}
-use Rattle.std.proofs.lemmas.List.{length-drop}
+use Rattle.std.specs.Option.{option_copied}
+use Rattle.std.specs.Slice.{IsGetRangeResult}
+use Rattle.std.proofs.lemmas.Bool.Decides.{nat_tests}
+use Rattle.std.proofs.lemmas.Grind.{common_steps}
 use Rattle.std.proofs.lemmas.Bool.{and_parts, and_from, eq-eqb, eqb-true, not-true, cond-true, cond-false}
 use Rattle.text.specs.Chars.{place}
-use Rattle.script.specs.Words.{on_first, words_of, words_after, together, lacks, AllLack, WordsLaw}
+use Rattle.script.specs.Words.{on_first, words_of, words_left, together, lacks, AllLack, WordsLaw}
 
-cut_by : (sep b : ℕ) (t : List ℕ) → words_of sep t ≡ take (place sep t) t ∷ words_after sep (drop (place sep t) t)
-    → (v : Bool) → cond v ([] ∷ words_of sep t) (on_first b (words_of sep t)) ≡ take (cond v 0 (1 + place sep t)) (b ∷ t) ∷ words_after sep (drop (cond v 0 (1 + place sep t)) (b ∷ t))
+-- the text behind a separator, where one stands first
+abbrev pub behind : List ℕ → Option (List ℕ)
+behind [] = None
+behind (b ∷ t) = Some t
+
+cut_by : (sep b : ℕ) (t : List ℕ) → words_of sep t ≡ take (place sep t) t ∷ words_left sep (behind (drop (place sep t) t))
+    → (v : Bool) → cond v ([] ∷ words_of sep t) (on_first b (words_of sep t)) ≡ take (cond v 0 (1 + place sep t)) (b ∷ t) ∷ words_left sep (behind (drop (cond v 0 (1 + place sep t)) (b ∷ t)))
 cut_by sep b t ih true = refl
 cut_by sep b t ih false =
-    ap (on_first b) ih ∙ ap (λ n. take n (b ∷ t) ∷ words_after sep (drop n (b ∷ t))) (sym (one-add (place sep t)))
+    ap (on_first b) ih ∙ ap (λ n. take n (b ∷ t) ∷ words_left sep (behind (drop n (b ∷ t)))) (sym (one-add (place sep t)))
 
 -- the first word ends where the separator first stands
-words_cut : (sep : ℕ) (t : List ℕ) → words_of sep t ≡ take (place sep t) t ∷ words_after sep (drop (place sep t) t)
+words_cut : (sep : ℕ) (t : List ℕ) → words_of sep t ≡ take (place sep t) t ∷ words_left sep (behind (drop (place sep t) t))
 words_cut sep [] = refl
 words_cut sep (b ∷ t) = cut_by sep b t (words_cut sep t) (eqb b sep)
 
-pub first_cut : (sep : ℕ) (t word rest : List ℕ) (n : ℕ) → n ≡ place sep t → word ≡ take n t → rest ≡ drop n t → words_of sep t ≡ word ∷ words_after sep rest
-first_cut sep t word rest n e f g =
-    let x : word ≡ take (place sep t) t = f ∙ ap (λ m. take m t) e in
-    let y : rest ≡ drop (place sep t) t = g ∙ ap (λ m. drop m t) e in
-    words_cut sep t ∙ sym (λ i. x i ∷ words_after sep (y i))
+-- the separator stands within the text, or at its end
+pub place_within : (sep : ℕ) (t : List ℕ) → place sep t ≤ length t
+place_within sep [] = omega arith
+place_within sep (b ∷ t) = let ih = place_within sep t in grind (arith, nat_tests)
 
-pub first_short : (t rest : List ℕ) (n : ℕ) → rest ≡ drop n t → length rest ≤ length t
-first_short t rest n g = let l = ap length g in let m = length-drop n t in omega arith
+behind_got : (t : List ℕ) (r : Option (Bor (List ℕ))) → IsGetRangeResult t 1 (length t) r → option_copied r ≡ behind t
+behind_got [] None h = refl
+behind_got [] (Some x) h = absurd (omega (arith, h.0))
+behind_got (b ∷ t) None h = grind (arith, common_steps)
+behind_got (b ∷ t) (Some x) h = grind (arith, common_steps)
+
+pub first_cut : (sep n : ℕ) (t word rest : List ℕ) (left : Option (Bor (List ℕ))) → n ≡ place sep t → word ≡ take n t → rest ≡ drop n t → IsGetRangeResult rest 1 (length rest) left
+    → words_of sep t ≡ word ∷ words_left sep (option_copied left)
+first_cut sep n t word rest left e f g h =
+    let w : word ≡ take (place sep t) t = f ∙ ap (λ m. take m t) e in
+    let r : rest ≡ drop (place sep t) t = g ∙ ap (λ m. drop m t) e in
+    words_cut sep t ∙ sym (λ i. w i ∷ words_left sep ((behind_got rest left h ∙ ap behind r) i))
 
 clean_first : (sep b : ℕ) (ws : List (List ℕ)) → not (eqb b sep) ≡ true → AllLack sep ws → AllLack sep (on_first b ws)
 clean_first sep b [] h a = (and_from _ _ h refl, tt)

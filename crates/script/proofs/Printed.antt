@@ -1,24 +1,29 @@
 -- What is written in the usual ways is read back.
-use Rattle.std.proofs.Common.{◌≡◌, ℕ, zero, suc, ◌+◌, ◌*◌, ◌/◌, ◌%◌, ◌^◌, ◌<◌, ◌≤◌, Bool, true, false, cond, not, eqb, ltb, leb, List, [], ◌∷◌, length, ℤ, pos, negsuc, neg_ℤ, Some, Ok, Err, decimal, Result, sym, refl, ap, ◌∙◌, subst, inl, inr, mod-lt, arith, lit<, rules}
+use Rattle.std.proofs.Common.{◌≡◌, ℕ, zero, suc, ◌+◌, ◌*◌, ◌/◌, ◌%◌, ◌^◌, ◌<◌, ◌≤◌, Bool, true, false, cond, not, eqb, ltb, leb, List, [], ◌∷◌, length, ℤ, pos, negsuc, neg_ℤ, Some, Ok, Err, decimal, Result, refl, ap, ◌∙◌, mod-lt, arith, lit<, rules}
 use lib.Signed.{mag}
 use native.Mathlib.Nat.{div-add-mod}
 use Rattle.std.specs.List.{AllByRecursion}
 use Rattle.std.specs.Fmt.{signed_decimal}
 use Rattle.std.proofs.lemmas.Fmt.{digits_decimal, digits_value-decimal, decimal_nonempty}
 use Rattle.std.proofs.lemmas.Str.Parse.{IsNumeralModel, numerals_by_fold}
-use Rattle.std.proofs.lemmas.Bool.{and_parts, and_from, ne_eqb, not-true, cond-true, cond-false, lt-ltb, le-leb, leb-true, ltb-true, cases_Bool}
+use Rattle.std.proofs.lemmas.Bool.{and_parts, and_from, not-true, cond-true, cond-false, lt-ltb, le-leb}
 use Rattle.std.proofs.lemmas.Bool.Decides.{nat_tests}
 use Rattle.text.specs.Chars.{digit, every}
+use Rattle.text.specs.Digits.{number_after}
 use Rattle.script.specs.declared.command.LineError.{LineError}
 use Rattle.script.specs.declared.command.LineError.TheVariants.{BadNumber}
 use Rattle.script.specs.Laws.{hex_char, in_hex, SpellingLaw, NumberLaw, LanguageLaw}
-use Rattle.script.specs.Numbers.{number_after, is_number, number_of, plus, minus, signed_of}
+use Rattle.script.specs.Numbers.{is_number, number_of, plus, minus, signed_of}
 use Rattle.script.specs.Outcomes.{and_then, in_front}
 use Rattle.script.specs.Spelling.{backslash, hex_digit, paired, escaped, spelled}
 use Rattle.script.specs.Words.{lacks}
 use Rattle.script.proofs.Cuts.{words_law}
-use Rattle.script.proofs.Digits.{digits_first}
-use Rattle.script.proofs.Spells.{plain}
+
+-- any byte but a backslash stands for itself
+plain : (b : ℕ) (t : List ℕ) → eqb b backslash ≡ false → spelled (b ∷ t) ≡ in_front b (spelled t)
+plain b [] e = cond-false (eqb b backslash) _ _ e
+plain b (h ∷ []) e = cond-false (eqb b backslash) _ _ e
+plain b (h ∷ l ∷ t) e = cond-false (eqb b backslash) _ _ e
 
 plain_word : (w : List ℕ) → lacks backslash w ≡ true → spelled w ≡ Ok w
 plain_word [] h = refl
@@ -57,9 +62,7 @@ number_bounded w n e = grind (arith, nat_tests)
 
 not_minus : (w : List ℕ) → every digit w ≡ true → 0 < length w → signed_of w ≡ and_then (number_of w) plus
 not_minus [] d s = absurd (omega arith)
-not_minus (b ∷ t) d s =
-    let f = digits_first (b ∷ t) t b refl d in
-    cond-false (eqb b 45) _ _ (ne_eqb b 45 (λ e. omega arith))
+not_minus (b ∷ t) d s = cond-false (eqb b 45) _ _ (grind (arith, nat_tests))
 
 signed_back : (z : ℤ) → mag z < 2 ^ 63 → signed_of (signed_decimal z) ≡ Ok z
 signed_back (pos n) h =
@@ -69,43 +72,26 @@ signed_back (negsuc n) h =
     let k : suc n < 2 ^ 64 = omega arith in
     ap (λ r. and_then r minus) (number_back (suc n) k) ∙ cond-true (leb (suc n) (2 ^ 63)) _ _ (le-leb _ _ (omega arith))
 
-none : {X : Type 0} (x : X) → Err BadNumber ≡ Ok x → ⊥
-none x e = let z : ◌≡◌ {A = ℕ} 0 1 = cc in omega arith
-
 plus_bounded : (n : ℕ) (z : ℤ) → plus n ≡ Ok z → mag z < 2 ^ 63
-plus_bounded n z e =
-    elim (cases_Bool (ltb n (2 ^ 63))) [
-      | inl t ↦
-          let q : Ok (pos n) ≡ Ok z = sym (cond-true (ltb n (2 ^ 63)) (Ok (pos n)) (Err BadNumber) t) ∙ e in
-          let p : pos n ≡ z = cc in
-          subst (λ y. mag y < 2 ^ 63) p (ltb-true _ _ t)
-      | inr f ↦ absurd (none z (sym (cond-false (ltb n (2 ^ 63)) (Ok (pos n)) (Err BadNumber) f) ∙ e))
-    ]
+plus_bounded n z e = grind (arith, nat_tests)
 
 neg_mag : (n : ℕ) → n ≤ 2 ^ 63 → mag (neg_ℤ (pos n)) < 2 ^ 63
 neg_mag zero h = lit< tt
 neg_mag (suc n) h = omega arith
 
 minus_bounded : (n : ℕ) (z : ℤ) → minus n ≡ Ok z → mag z < 2 ^ 63
-minus_bounded n z e =
-    elim (cases_Bool (leb n (2 ^ 63))) [
-      | inl t ↦
-          let q : Ok (neg_ℤ (pos n)) ≡ Ok z = sym (cond-true (leb n (2 ^ 63)) (Ok (neg_ℤ (pos n))) (Err BadNumber) t) ∙ e in
-          let p : neg_ℤ (pos n) ≡ z = cc in
-          subst (λ y. mag y < 2 ^ 63) p (neg_mag n (leb-true _ _ t))
-      | inr f ↦ absurd (none z (sym (cond-false (leb n (2 ^ 63)) (Ok (neg_ℤ (pos n))) (Err BadNumber) f) ∙ e))
-    ]
+minus_bounded n z e = grind (arith, nat_tests, neg_mag n)
 
 then_bounded : (r : Result ℕ LineError) (f : ℕ → Result ℤ LineError) (z : ℤ) → ((n : ℕ) → f n ≡ Ok z → mag z < 2 ^ 63) → and_then r f ≡ Ok z → mag z < 2 ^ 63
 then_bounded (Ok n) f z h e = h n e
-then_bounded (Err d) f z h e = let q : ◌≡◌ {A = ℕ} 0 1 = cc in absurd (omega arith)
+then_bounded (Err d) f z h e = cc
 
 signed_by : (b : ℕ) (t : List ℕ) (z : ℤ) (v : Bool) → cond v (and_then (number_of t) minus) (and_then (number_of (b ∷ t)) plus) ≡ Ok z → mag z < 2 ^ 63
 signed_by b t z true e = then_bounded (number_of t) minus z (λ n. minus_bounded n z) e
 signed_by b t z false e = then_bounded (number_of (b ∷ t)) plus z (λ n. plus_bounded n z) e
 
 signed_bounded : (w : List ℕ) (z : ℤ) → signed_of w ≡ Ok z → mag z < 2 ^ 63
-signed_bounded [] z e = absurd (none z e)
+signed_bounded [] z e = cc
 signed_bounded (b ∷ t) z e = signed_by b t z (eqb b 45) e
 
 number_law : NumberLaw

@@ -3,7 +3,8 @@ use Rattle.std.specs.Prelude.{◌≡◌, ℕ, ◌+◌, ◌/◌, ◌%◌, ◌<◌
 use Rattle.std.specs.Int.Signed.{mag}
 use Rattle.std.specs.List.{flat_map, AllByRecursion}
 use Rattle.std.specs.Fmt.{signed_decimal}
-use Rattle.script.specs.Numbers.{number_end, signed_end, number_of, signed_of}
+use Rattle.text.specs.Digits.{number_end}
+use Rattle.script.specs.Numbers.{signed_end, number_of, signed_of}
 use Rattle.script.specs.Spelling.{backslash, spelled}
 use Rattle.script.specs.Words.{lacks, WordsLaw}
 

@@ -1,30 +1,22 @@
 -- Numbers as words write them: decimal digits, and a minus in front where a number may be below nothing.
-use Rattle.std.specs.Prelude.{ℕ, ◌+◌, ◌-◌, ◌*◌, ◌^◌, Bool, cond, ◌&&◌, List, [], ◌∷◌, length, ℤ, pos, neg_ℤ, Ok, Err, Result, ◌==◌, nat_le, nat_lt}
-use Rattle.text.specs.Chars.{digit, every}
+use Rattle.std.specs.Prelude.{ℕ, ◌^◌, Bool, cond, ◌&&◌, List, [], ◌∷◌, length, ℤ, pos, neg_ℤ, Ok, Err, Result, ◌==◌, nat_le, nat_lt}
+use Rattle.text.specs.Digits as digits
+use Rattle.text.specs.Digits.{number}
 use Rattle.script.specs.declared.command.LineError.{LineError}
 use Rattle.script.specs.declared.command.LineError.TheVariants.{BadNumber}
 use Rattle.script.specs.Outcomes.{and_then}
 
--- what digits write behind digits that write n
-abbrev pub number_after : ℕ → List ℕ → ℕ
-number_after n [] = n
-number_after n (d ∷ ds) = number_after (n * 10 + (d - 48)) ds
-
--- numbers lie below this
-abbrev pub number_end : ℕ
-number_end = 2 ^ 64
-
--- and signed ones from its negative to below it
+-- signed numbers lie below this, and from its negative on
 abbrev pub signed_end : ℕ
 signed_end = 2 ^ 63
 
 -- at least one digit, nothing else, and not too large
 abbrev pub is_number : List ℕ → Bool
-is_number w = nat_lt 0 (length w) && (every digit w && nat_lt (number_after 0 w) number_end)
+is_number w = nat_lt 0 (length w) && digits.is_number w
 
 -- the number of a word
 abbrev pub number_of : List ℕ → Result ℕ LineError
-number_of w = cond (is_number w) (Ok (number_after 0 w)) (Err BadNumber)
+number_of w = cond (is_number w) (Ok (number w)) (Err BadNumber)
 
 -- the number n, and n below nothing, within signed 64 bits
 abbrev pub plus : ℕ → Result ℤ LineError

@@ -1,5 +1,5 @@
 -- A line's words: what stands between the separators.
-use Rattle.std.specs.Prelude.{◌≡◌, ℕ, ◌<◌, Bool, true, cond, not, List, [], ◌∷◌, ◌++◌, length, ◌==◌}
+use Rattle.std.specs.Prelude.{◌≡◌, ℕ, ◌<◌, Bool, true, cond, not, List, [], ◌∷◌, ◌++◌, length, Some, None, Option, ◌==◌}
 use Rattle.std.specs.List.{flat_map}
 use Rattle.text.specs.Chars.{every}
 
@@ -13,10 +13,10 @@ abbrev pub words_of : ℕ → List ℕ → List (List ℕ)
 words_of sep [] = [] ∷ []
 words_of sep (b ∷ t) = cond (b == sep) ([] ∷ words_of sep t) (on_first b (words_of sep t))
 
--- the words of what stands behind a word, which is nothing or begins with a separator
-abbrev pub words_after : ℕ → List ℕ → List (List ℕ)
-words_after sep [] = []
-words_after sep (b ∷ t) = words_of sep t
+-- the words of the text behind the last separator, or none where no separator was left
+abbrev pub words_left : ℕ → Option (List ℕ) → List (List ℕ)
+words_left sep None = []
+words_left sep (Some t) = words_of sep t
 
 -- words put together, with a separator between each two
 abbrev pub together : ℕ → List (List ℕ) → List ℕ

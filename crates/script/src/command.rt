@@ -5,14 +5,14 @@ ghost use Rattle.script.specs.declared.command.LineError.TheVariants.{NoMemory};
 use std::alloc::AllocFailed;
 
 // The kinds of books.
-#[derive(Clone, Copy)]
+#[derive(Clone, Copy, PartialEq, Eq, Debug)]
 pub enum Kind {
     Account,
     Guarantee,
 }
 
 // A line's command.
-#[derive(Drop)]
+#[derive(PartialEq, Eq, Debug, Drop)]
 pub enum Command {
     // an empty line, or a comment
     Nothing,

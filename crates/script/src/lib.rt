@@ -8,6 +8,7 @@ pub mod command;
 mod names;
 mod numbers;
 pub mod read;
+mod said;
 mod spelling;
 mod why;
 mod words;

@@ -1,9 +1,8 @@
 // The names of the commands and of the kinds of books.
-ghost use Rattle.std.specs.Prelude.{◌≡◌};
-ghost use Rattle.std.specs.Str.{bytes_eq};
 ghost use Rattle.script.specs.Names.{name_of, kind_of};
 
 use crate::command::{Kind, LineError};
+use crate::said::FromBytes;
 
 // The names of the commands.
 #[derive(Clone, Copy)]
@@ -14,38 +13,28 @@ pub(crate) enum Name {
     Covers,
 }
 
-fn same(a: &[u8], b: &[u8]) -> bool
-    ensures { result ≡ bytes_eq a.now b.now }
-{
-    a == b
+impl FromBytes for Name {
+    ghost written = { name_of };
+
+    fn from_bytes(bytes: &[u8]) -> Result<Name, LineError> {
+        match bytes {
+            b"book" => Ok(Name::Book),
+            b"offer" => Ok(Name::Offer),
+            b"pay-in" => Ok(Name::PayIn),
+            b"covers" => Ok(Name::Covers),
+            _ => Err(LineError::UnknownCommand),
+        }
+    }
 }
 
-pub(crate) fn command_name(word: &[u8]) -> Result<Name, LineError>
-    ensures { result ≡ name_of word.now }
-{
-    if same(word, b"book") {
-        return Ok(Name::Book);
-    }
-    if same(word, b"offer") {
-        return Ok(Name::Offer);
-    }
-    if same(word, b"pay-in") {
-        return Ok(Name::PayIn);
-    }
-    if same(word, b"covers") {
-        return Ok(Name::Covers);
-    }
-    Err(LineError::UnknownCommand)
-}
+impl FromBytes for Kind {
+    ghost written = { kind_of };
 
-pub(crate) fn book_kind(word: &[u8]) -> Result<Kind, LineError>
-    ensures { result ≡ kind_of word.now }
-{
-    if same(word, b"account") {
-        return Ok(Kind::Account);
+    fn from_bytes(bytes: &[u8]) -> Result<Kind, LineError> {
+        match bytes {
+            b"account" => Ok(Kind::Account),
+            b"guarantee" => Ok(Kind::Guarantee),
+            _ => Err(LineError::UnknownKind),
+        }
     }
-    if same(word, b"guarantee") {
-        return Ok(Kind::Guarantee);
-    }
-    Err(LineError::UnknownKind)
 }

@@ -1,8 +1,10 @@
 // The reasons in words.
-ghost use Rattle.std.specs.Prelude.{◌≡◌};
+ghost use Rattle.std.specs.Prelude.{◌≡◌, Some};
 ghost use Rattle.script.specs.Reasons.{reason};
 
 use crate::command::LineError;
+use std::error::Error;
+use std::fmt;
 
 impl LineError {
     pub fn why(self) -> &'static str
@@ -20,3 +22,13 @@ impl LineError {
         }
     }
 }
+
+impl fmt::Display for LineError {
+    ghost output = { λ e. Some (reason e) };
+
+    fn fmt<W: fmt::Write>(&self, f: &mut fmt::Formatter<W>) -> fmt::Result {
+        f.write_str(self.why())
+    }
+}
+
+impl Error for LineError {}

@@ -1,36 +1,70 @@
 // The words of a line, one after another.
-ghost use Rattle.std.specs.Prelude.{◌≡◌, ◌<◌, ◌≤◌, [], ◌∷◌, length, Some, None};
-ghost use Rattle.script.specs.Words.{words_of, words_after};
+ghost use Rattle.std.specs.Iterator.{YieldsFirstRef, item_count};
 
+use crate::command::LineError;
+use std::iter::Iterator;
+use std::marker::Model;
 use text::chars::find;
-use text::slices::{front, skip, uncons};
 
-// A word, and what stands behind it: nothing, or a separator and further words.
-#[derive(Clone, Copy)]
-pub(crate) struct Word<'a> {
-    pub text: &'a [u8],
-    pub rest: &'a [u8],
+const SPACE: u8 = b' ';
+
+// The words that are left of a line: those of the text behind the last separator, or none.
+#[derive(Drop)]
+pub(crate) struct Words<'a> {
+    left: Option<&'a [u8]>,
 }
 
-// The first word of a text.
-pub(crate) fn first_word<'a>(separator: u8, text: &'a [u8]) -> Word<'a>
-    ensures words { words_of separator text.now ≡ result.text.now ∷ words_after separator result.rest.now }
-    ensures shorter { length result.rest.now ≤ length text.now }
-{
-    let end = find(text, separator);
-    Word {
-        text: front(text, end),
-        rest: skip(text, end),
+impl<'a> Model for Words<'a> {
+    ghost use Rattle.std.specs.Prelude.{ℕ, List, option_copied};
+    ghost use Rattle.script.specs.Commands.{space};
+    ghost use Rattle.script.specs.Words.{words_left};
+
+    ghost Value = { List (List ℕ) };
+
+    ghost view = { λ w. words_left space (option_copied w.left) };
+}
+
+impl<'a> Words<'a> {
+    ghost use Rattle.std.specs.Prelude.{◌≡◌, ◌≢◌, [], ◌∷◌, MatchResult};
+    ghost use Rattle.script.specs.declared.command.LineError.TheVariants.{MissingWord, SpareWord};
+    ghost use Rattle.script.specs.Commands.{space};
+    ghost use Rattle.script.specs.Words.{words_of};
+
+    pub(crate) fn of(line: &'a [u8]) -> Words<'a>
+        ensures { result ≡ words_of space line.now }
+    {
+        Words { left: Some(line) }
+    }
+
+    // The next word, where one has to stand.
+    pub(crate) fn required(&mut self) -> Result<&'a [u8], LineError>
+        ensures { MatchResult result (λ word. self.old ≡ word.now ∷ self.new) (λ e. (self.old ≡ []) × (e ≡ MissingWord)) }
+    {
+        self.next().ok_or(LineError::MissingWord)
+    }
+
+    // Whether no word is left, where none may stand.
+    pub(crate) fn end(mut self) -> Result<(), LineError>
+        ensures { MatchResult result (λ _. self.entry ≡ []) (λ e. (self.entry ≢ []) × (e ≡ SpareWord)) }
+    {
+        match self.next() {
+            None => Ok(()),
+            Some(_) => Err(LineError::SpareWord),
+        }
     }
 }
 
-// The next word of what stands behind a word.
-pub(crate) fn next_word<'a>(separator: u8, rest: &'a [u8]) -> Option<Word<'a>>
-    ensures words { words_after separator rest.now ≡ elim result [ None ↦ [] | Some w ↦ w.text.now ∷ words_after separator w.rest.now ] }
-    ensures shorter { elim result [ None ↦ Unit {0} | Some w ↦ length w.rest.now < length rest.now ] }
-{
-    match uncons(rest) {
-        None => None,
-        Some(cut) => Some(first_word(separator, cut.tail)),
+impl<'a> Iterator for Words<'a> {
+    type Item = &'a [u8];
+
+    ghost next_gives = { YieldsFirstRef (λ words. words) };
+
+    ghost remaining = { item_count (λ words. words) };
+
+    fn next(&mut self) -> Option<&'a [u8]> {
+        let text = self.left?;
+        let (word, behind) = text.split_at(find(text, SPACE));
+        self.left = behind.get(1..);
+        Some(word)
     }
 }

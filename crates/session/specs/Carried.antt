@@ -2,17 +2,14 @@
 -- a book and has none cannot be carried out.
 use Rattle.std.specs.Prelude.{◌≡◌, ℕ, List, ℤ, Some, None, Ok, Err, Option, Result}
 use Rattle.books.specs.Opening.{Openable}
-use Rattle.keeper.specs.Offers.{OfferAnswered, OfferDenied, covers_after, sittings_after}
-use Rattle.keeper.specs.PayIns.{pay_in_answer, covers_paid, PayInDenied}
-use Rattle.keeper.specs.declared.answer.OfferAnswer.{OfferAnswer}
-use Rattle.keeper.specs.declared.answer.PayInAnswer.{PayInAnswer}
+use Rattle.keeper.specs.Offers.{OfferAnswer, OfferAnswered, OfferDenied, covers_after, sittings_after}
+use Rattle.keeper.specs.PayIns.{PayInAnswer, pay_in_answer, covers_paid, PayInDenied}
 use Rattle.script.specs.declared.command.Kind.{Kind}
 use Rattle.script.specs.declared.command.LineError.{LineError}
 use Rattle.script.specs.declared.command.LineError.TheVariants.{NoBook, NoMemory}
-use Rattle.session.specs.Books.{kind_of, covers_in, sittings_in, pledges_in, pledges_at, Names}
+use Rattle.session.specs.Books.{BookAnswer, kind_of, covers_in, sittings_in, pledges_in, pledges_at, Names}
 use Rattle.session.specs.declared.any_book.AnyBook.{AnyBook}
-use Rattle.session.specs.declared.answer.BookAnswer.{BookAnswer}
-use Rattle.session.specs.declared.answer.BookAnswer.TheVariants.{Opened, Denied}
+use Rattle.session.specs.declared.answer.BookDenial.TheVariants.{BreaksRule}
 
 -- there is a book, of this kind, with these sums as its covers, and as its pledges if it has some, and these sittings
 pub record Holds (book : Option AnyBook) (kind : Kind) (covers : List ℕ) (sittings : ℕ) : Type 0 where
@@ -25,8 +22,8 @@ pub record Holds (book : Option AnyBook) (kind : Kind) (covers : List ℕ) (sitt
 
 -- a book is opened by the rules of opening; one that is denied, or that keeps them all and finds no memory, leaves the one before it
 abbrev pub Opens : Kind → ℕ → List ℕ → Option AnyBook → Result BookAnswer LineError → Option AnyBook → Type 0
-Opens kind sittings sums before (Ok Opened) after = Openable sums sittings × Holds after kind sums sittings
-Opens kind sittings sums before (Ok Denied) after = (Openable sums sittings → ⊥) × (after ≡ before)
+Opens kind sittings sums before (Ok (Ok opened)) after = Openable sums sittings × Holds after kind sums sittings
+Opens kind sittings sums before (Ok (Err BreaksRule)) after = (Openable sums sittings → ⊥) × (after ≡ before)
 Opens kind sittings sums before (Err e) after = Openable sums sittings × (e ≡ NoMemory) × (after ≡ before)
 
 -- what needs a book is done with the book that is there; without one it cannot be done

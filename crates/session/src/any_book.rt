@@ -1,9 +1,10 @@
-// A book of any kind.
+// A book of any kind: an enum of the two, since a line says the kind as the program runs, and a match on it takes no memory.
 ghost use Rattle.std.specs.Prelude.{◌≡◌};
 ghost use Rattle.keeper.specs.Offers.{OfferAnswered, OfferDenied, covers_after, sittings_after};
 ghost use Rattle.keeper.specs.PayIns.{pay_in_answer, covers_paid, PayInDenied};
 ghost use Rattle.session.specs.Books.{kind_of, covers_in, sittings_in, pledges_in, Names};
 ghost use Rattle.std.proofs.Common.{rules};
+ghost use Rattle.std.proofs.lemmas.List.{length-map};
 
 use books::{AccountBook, GuaranteeBook};
 use keeper::{CoverAnswer, Keeper, OfferAnswer, PayInAnswer, PayingIn};
@@ -19,9 +20,9 @@ impl Keeper for AnyBook {
 
     ghost sittings = { sittings_in };
 
-    ghost some = { Prim.search rules };
+    ghost some = { Prim.search (rules, length-map) };
 
-    ghost few = { Prim.search rules };
+    ghost few = { Prim.search (rules, length-map) };
 
     ghost bounded = { Prim.search rules };
 

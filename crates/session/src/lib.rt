@@ -8,6 +8,6 @@ mod any_book;
 mod opening;
 mod state;
 
-pub use answer::BookAnswer;
+pub use answer::{BookAnswer, BookDenial};
 pub use any_book::AnyBook;
 pub use state::Session;

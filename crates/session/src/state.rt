@@ -3,7 +3,7 @@ ghost use Rattle.std.specs.Prelude.{◌≡◌, Some, None, Ok, Err};
 ghost use Rattle.script.specs.declared.command.LineError.TheVariants.{NoBook};
 ghost use Rattle.session.specs.Carried.{Opens, Offered, PaidIn, WithBook};
 
-use crate::answer::BookAnswer;
+use crate::answer::{BookAnswer, BookDenial};
 use crate::any_book::AnyBook;
 use crate::opening::open_kind;
 use books::OpenDenial;
@@ -34,12 +34,13 @@ impl Session {
     ) -> Result<BookAnswer, LineError>
         ensures { Opens kind sittings sums.now self.old.book result self.new.book }
     {
+        // a match, since each of the three does another thing
         match open_kind(heap, kind, sums, sittings) {
             Ok(book) => {
                 self.book = Some(book);
-                Ok(BookAnswer::Opened)
+                Ok(Ok(()))
             }
-            Err(OpenDenial::BreaksRule) => Ok(BookAnswer::Denied),
+            Err(OpenDenial::BreaksRule) => Ok(Err(BookDenial::BreaksRule)),
             Err(OpenDenial::NoMemory) => Err(LineError::NoMemory),
         }
     }
@@ -47,19 +48,15 @@ impl Session {
     pub fn offer(&mut self, positions: &[i64]) -> Result<OfferAnswer, LineError>
         ensures { WithBook (Offered positions.now) self.old.book result self.new.book }
     {
-        match &mut self.book {
-            None => Err(LineError::NoBook),
-            Some(book) => Ok(book.offer(positions)),
-        }
+        let book = self.book.as_mut().ok_or(LineError::NoBook)?;
+        Ok(book.offer(positions))
     }
 
     pub fn pay_in(&mut self, place: usize, cents: u64) -> Result<PayInAnswer, LineError>
         ensures { WithBook (PaidIn place cents) self.old.book result self.new.book }
     {
-        match &mut self.book {
-            None => Err(LineError::NoBook),
-            Some(book) => Ok(book.pay_in(place, cents)),
-        }
+        let book = self.book.as_mut().ok_or(LineError::NoBook)?;
+        Ok(book.pay_in(place, cents))
     }
 
     // The book, to be asked.
