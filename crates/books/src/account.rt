@@ -60,14 +60,23 @@ pub(crate) fn open_each<A: Account>(heap: Global, sums: &[u64]) -> Result<Vec<A>
     ensures covers { IfOk result (λ accounts. map A.cover_in accounts.items ≡ sums.now) }
     ensures pledges { IfOk result (λ accounts. map A.pledge_in accounts.items ≡ map A.pledge_of sums.now) }
 {
-    sums.iter().map(|sum| A::open(*sum)).collect(heap)
+    // Memory is asked for once, and want of it answered then: `collect` goes on past a first refusal, and asks again as it grows.
+    let mut accounts = Vec::with_capacity(heap, sums.len())?;
+    for sum in sums {
+        accounts.push_reserved(A::open(*sum));
+    }
+    Ok(accounts)
 }
 
 pub(crate) fn together<A: Account>(accounts: &[A]) -> u64
     requires { total (map A.cover_in accounts.now) ≤ most_together }
     ensures { result ≡ total (map A.cover_in accounts.now) }
 {
-    accounts.iter().map(|account| account.cover()).sum()
+    let mut all = 0;
+    for account in accounts {
+        all += account.cover();
+    }
+    all
 }
 
 pub(crate) fn add_each<A: Account>(accounts: &mut [A], positions: &[i64])

@@ -49,13 +49,16 @@ impl Naming for Guarantee {
     ghost Named = { Greatest };
 
     fn short(guarantees: &[Guarantee], positions: &[i64]) -> Option<usize> {
-        // by place, since the place is asked for and what is short there
+        // by place, since the place is asked for and what is short there; what is least is kept, and not worked out at each place again
         let mut worst = 0;
+        let mut least = left(guarantees[0], positions[0]);
         for (place, position) in positions.iter().enumerate() {
-            if left(guarantees[place], *position) < left(guarantees[worst], positions[worst]) {
+            let here = left(guarantees[place], *position);
+            if here < least {
                 worst = place;
+                least = here;
             }
         }
-        (left(guarantees[worst], positions[worst]) < 0).then_some(worst)
+        (least < 0).then_some(worst)
     }
 }

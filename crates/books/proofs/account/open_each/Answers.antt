@@ -1,29 +1,52 @@
-use Rattle.std.proofs.Common.{◌≡◌, ℕ, List, map, IfOk, vec_items, subst, arith, rules}
-use Rattle.std.proofs.lemmas.Iterator.{YieldsList-from_slice, YieldsList-from_map_by}
-use Rattle.std.proofs.lemmas.Iterator.Adapters.{serves_from_places}
-use Rattle.std.proofs.lemmas.Iterator.Consumers.{YieldsList-at, map_from_collect}
-use Rattle.std.proofs.lemmas.List.{get_or_default, map-id}
+use Rattle.std.proofs.Common.{◌≡◌, ℕ, ◌+◌, ◌≤◌, List, [], ◌∷◌, ◌++◌, map, length, get_or, take, vec_items, vec_len, sym, subst, ap, ap₂, ◌∙◌, arith}
+use Rattle.std.proofs.lemmas.List.{length-map, length-take, map_push, take_all, take_more}
 use Rattle.books.proofs.account.open_each.Goals as goal
 
-pub collect-requires-clause-can : goal.collect-requires-clause-can
-collect-requires-clause-can g c = (
-  tt,
-  serves_from_places
-      (YieldsList-at c.map.ensures.source (YieldsList-from_slice c.args.sums.now c.iter.ensures.rest))
-      (λ x q r. search rules)
-      (λ x k h e.
-      let w = c.requires k h in
-      let d = get_or_default c.args.sums.now k x.now 0 h in
-      search (rules, arith)),
-)
+pub loop-sum-init : goal.loop-sum-init
+loop-sum-init g c =
+    let items = c.in_ok-accounts.ensures.items in
+    (c.in_ok-accounts.ensures.capacity, (ap (map g.A.Account.cover_in) items, ap (map g.A.Account.pledge_in) items))
 
-pub returns : goal.returns
-returns g c = record {
-  covers =
-      subst (λ (all : List ℕ). IfOk c.collect.result (λ v. map g.A.Account.cover_in (vec_items v) ≡ all)) (map-id c.args.sums.now)
-      (map_from_collect c.collect.result c.collect.ensures.ran
-      (YieldsList-from_map_by _ g.A.Account.cover_in (λ s. s) (YieldsList-at c.map.ensures.source (YieldsList-from_slice c.args.sums.now c.iter.ensures.rest)) c.map.ensures.closure (λ x r q k. search rules)));
-  pledges =
-      map_from_collect c.collect.result c.collect.ensures.ran
-      (YieldsList-from_map_by _ g.A.Account.pledge_in g.A.Account.pledge_of (YieldsList-at c.map.ensures.source (YieldsList-from_slice c.args.sums.now c.iter.ensures.rest)) c.map.ensures.closure (λ x r q k. search rules));
-}
+pub push_reserved-requires : goal.push_reserved-requires
+push_reserved-requires g c =
+    let sums = c.args.sums.now in
+    let i : ℕ = c.loop-sum.sum-index in
+    let accounts = vec_items c.loop-sum.accounts in
+    let h = c.loop-sum-test.true in
+    let roomy = c.loop-sum.invariant.0 in
+    let size : vec_len c.loop-sum.accounts ≡ length accounts = c.loop-sum.accounts.ok.0 in
+    let n = length-map accounts g.A.Account.cover_in in
+    let e = ap length c.loop-sum.invariant.1.0 in
+    let k = length-take i sums in
+    omega arith
+
+pub loop-sum-preserved : goal.loop-sum-preserved
+loop-sum-preserved g c =
+    let sums = c.args.sums.now in
+    let i : ℕ = c.loop-sum.sum-index in
+    let accounts = vec_items c.loop-sum.accounts in
+    let more : take (i + 1) sums ≡ take i sums ++ get_or sums i 0 ∷ [] = take_more sums i 0 c.loop-sum-test.true in
+    let items = c.push_reserved.ensures.items in (
+      subst (λ n. length sums ≤ n) (sym c.push_reserved.ensures.capacity) c.loop-sum.invariant.0,
+      (
+        ap (map g.A.Account.cover_in) items
+            ∙ map_push g.A.Account.cover_in accounts c.open.result
+            ∙ ap₂ (λ (xs : List ℕ) x. xs ++ x ∷ []) c.loop-sum.invariant.1.0 c.open.ensures.cover
+            ∙ sym more,
+        ap (map g.A.Account.pledge_in) items
+            ∙ map_push g.A.Account.pledge_in accounts c.open.result
+            ∙ ap₂ (λ (xs : List ℕ) x. xs ++ x ∷ []) c.loop-sum.invariant.1.1 c.open.ensures.pledge
+            ∙ sym (map_push g.A.Account.pledge_of (take i sums) (get_or sums i 0))
+            ∙ ap (map g.A.Account.pledge_of) (sym more),
+      ),
+    )
+
+pub returns-clause-covers : goal.returns-clause-covers
+returns-clause-covers g c =
+    let f = c.loop-sum-test.false in
+    c.loop-sum.invariant.1.0 ∙ take_all c.loop-sum.sum-index c.args.sums.now (omega arith)
+
+pub returns-clause-pledges : goal.returns-clause-pledges
+returns-clause-pledges g c =
+    let f = c.loop-sum-test.false in
+    c.loop-sum.invariant.1.1 ∙ ap (map g.A.Account.pledge_of) (take_all c.loop-sum.sum-index c.args.sums.now (omega arith))
