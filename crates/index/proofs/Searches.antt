@@ -6,6 +6,7 @@ use Rattle.std.specs.Ordering.{is_eq, is_lt, is_gt, ordering_reverse, ordering_i
 use Rattle.std.specs.Option.{option_cmp}
 use Rattle.std.specs.List.{HoldsAt}
 use Rattle.std.specs.List.Sorted.{IsNonDecreasingBy, IsPartitionPoint}
+use Rattle.std.proofs.Math.Path.{fun_ext}
 use Rattle.std.proofs.lemmas.List.Sorted.{searchable_from_sorted}
 use Rattle.std.proofs.lemmas.List.{get_or_default}
 use Rattle.std.proofs.lemmas.Bool.{false≢true, cases_lt}
@@ -24,6 +25,10 @@ lacks before ks ns k irrefl p gap n h same =
     (λ lt. never (subst (λ x. precedes before x (Some k) ≡ true) is (gap.lower i lt)))
     (λ ge. never (subst (λ x. precedes before (Some k) x ≡ true) is (gap.upper i ge at.1)))
     (cases_lt i p)
+
+-- a comparison that answers by an order is that order
+pub ordered_is : {K : Type 0} (cmp : K → K → Ordering) (before : K → K → Bool) → ((x y : K) → less cmp x y ≡ before x y) → less cmp ≡ before
+ordered_is cmp before ordered = fun_ext (λ x. fun_ext (λ y. ordered x y))
 
 -- an order turned round
 turned : (r : Ordering) → is_lt r ≡ true → is_lt (ordering_reverse r) ≡ false

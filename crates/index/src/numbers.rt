@@ -1,7 +1,7 @@
 // The numbers in the order of their items' keys: a search by halves, and one number more.
 ghost use Rattle.std.specs.Prelude.{◌≡◌, ◌+◌, ◌≤◌, ◌&&◌, [], map, length, IfOk, if◌then◌else◌, nat_le, nat_lt};
 ghost use Rattle.std.specs.List.{insert};
-ghost use Rattle.index.specs.Order.{key_of, less, Indexed, Sought};
+ghost use Rattle.index.specs.Order.{key_of, Indexed, Sought};
 ghost use Rattle.index.specs.Contents.{entries, room as memory};
 
 use crate::keys::{Key, Keyed};
@@ -38,8 +38,8 @@ impl Index {
 
     // The number of the indexed item that has the key; or, where none has, the place at which its number would stand.
     pub fn find<K: Key + Copy, T: Keyed<K>>(&self, items: &[T], key: &K) -> Result<u16, usize>
-        requires { Indexed (less K.cmp) (map T.Keyed.called items.now) (entries self.now) }
-        ensures { Sought (less K.cmp) (map T.Keyed.called items.now) (entries self.now) key.now result }
+        requires { Indexed K.Key.before (map T.Keyed.called items.now) (entries self.now) }
+        ensures { Sought K.Key.before (map T.Keyed.called items.now) (entries self.now) key.now result }
     {
         let numbers = self.numbers.as_slice();
         let place = numbers.binary_search_by_key(&Some(*key), |number| item_key(items, *number))?;
