@@ -5,6 +5,10 @@ pub const SOH: u8 = 0x01;
 pub const ETX: u8 = 0x03;
 // What closes a frame: its byte and CrLf.
 pub const FRAME_END: &[u8] = b"\x03\r\n";
+// The two bytes that end a row.
+pub const CR: u8 = b'\r';
+
+pub const LF: u8 = b'\n';
 // What stands before block 1.
 pub const BEFORE_FIRST: &[u8] = b"{1:";
 // What stands between blocks 1 and 2.

@@ -7,5 +7,6 @@ mod judging;
 mod kind;
 mod reading;
 
+pub use headers::Sender;
 pub use judging::{Passed, judge};
 pub use kind::Kind;
