@@ -72,6 +72,7 @@ pub(crate) fn together<A: Account>(accounts: &[A]) -> u64
     requires { total (map A.cover_in accounts.now) ≤ most_together }
     ensures { result ≡ total (map A.cover_in accounts.now) }
 {
+    // No `map` and `sum`, which take up to twice as many instructions.
     let mut all = 0;
     for account in accounts {
         all += account.cover();

@@ -49,8 +49,9 @@ impl Naming for Guarantee {
     ghost Named = { Greatest };
 
     fn short(guarantees: &[Guarantee], positions: &[i64]) -> Option<usize> {
-        // by place, since the place is asked for and what is short there; what is least is kept, and not worked out at each place again
+        // by place, since the place is asked for and what is short there
         let mut worst = 0;
+        // what the worst house so far would have left: kept, and not worked out again at each place
         let mut least = left(guarantees[0], positions[0]);
         for (place, position) in positions.iter().enumerate() {
             let here = left(guarantees[place], *position);
