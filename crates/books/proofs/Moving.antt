@@ -89,9 +89,7 @@ module _ {A : Type 0} (cover : A → ℕ) (xs : List A) (place amount : ℕ) (do
       let v : cover x ≡ get_or (map cover xs) place 0 + amount = omega (arith, ints) in
       map-set cover xs place x ∙ ap (λ (k : ℕ). set (map cover xs) place k) v
 
-  pub paid_bounded : (x : A) → pos (cover x) ≡ pos (cover a) +ℤ pos amount → total (map cover (set xs place x)) ≤ most_together
-  paid_bounded x e =
-      let r = room_for (map cover xs) place amount done taken in
-      let t = total_paid (map cover xs) place (get_or (map cover xs) place 0) 0 amount r.here refl r.room in
-      let c = ap total (paid_covers x e) in
-      omega arith
+  pub paid_total : (x : A) → pos (cover x) ≡ pos (cover a) +ℤ pos amount → total (map cover (set xs place x)) ≡ total (map cover xs) + amount
+  paid_total x e =
+      let h = (room_for (map cover xs) place amount done taken).here in
+      ap total (paid_covers x e) ∙ total_paid (map cover xs) place (get_or (map cover xs) place 0) 0 amount h refl

@@ -13,9 +13,10 @@ use Rattle.keeper.proofs.Added.{add_each_at, add_each_length}
 pub cover_le_total : (covers : List ℕ) (k d : ℕ) → k < length covers → get_or covers k d ≤ total covers
 cover_le_total covers k d h = get_or-le-sum_by (λ c. c) covers k d h
 
-pub total_paid : (covers : List ℕ) (k cover d amount : ℕ) → k < length covers → cover ≡ get_or covers k d → total covers + amount ≤ most_together
-    → total (set covers k (cover + amount)) ≤ most_together
-total_paid covers k cover d amount h e room = let s = sum_by-set (λ c. c) covers k (cover + amount) d h in omega arith
+-- a sum that is paid in is added to the covers together
+pub total_paid : (covers : List ℕ) (k cover d amount : ℕ) → k < length covers → cover ≡ get_or covers k d
+    → total (set covers k (cover + amount)) ≡ total covers + amount
+total_paid covers k cover d amount h e = let s = sum_by-set (λ c. c) covers k (cover + amount) d h in omega arith
 
 fronts : (covers : List ℕ) (ps : List ℤ) → length ps ≡ length covers → NoneShort covers ps
     → (i : ℕ) → i ≤ length covers → pos (total (take i (add_each covers ps))) ≡ pos (total (take i covers)) +ℤ sum_ℤ (take i ps)

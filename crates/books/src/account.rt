@@ -68,18 +68,6 @@ pub(crate) fn open_each<A: Account>(heap: Global, sums: &[u64]) -> Result<Vec<A>
     Ok(accounts)
 }
 
-pub(crate) fn together<A: Account>(accounts: &[A]) -> u64
-    requires { total (map A.cover_in accounts.now) ≤ most_together }
-    ensures { result ≡ total (map A.cover_in accounts.now) }
-{
-    // No `map` and `sum`, which take up to twice as many instructions.
-    let mut all = 0;
-    for account in accounts {
-        all += account.cover();
-    }
-    all
-}
-
 pub(crate) fn add_each<A: Account>(accounts: &mut [A], positions: &[i64])
     requires sound { Sound (length accounts.old) positions.now }
     requires bounded { total (map A.cover_in accounts.old) ≤ most_together }

@@ -1,4 +1,4 @@
-// A book: one account a house, and the sittings that it will still take.
+// A book: one account a house, what their covers come to together, and the sittings that it will still take.
 ghost use Rattle.std.specs.Prelude.{◌≡◌, ◌≤◌, length, map, MatchResult};
 ghost use Rattle.keeper.specs.Covers.{total, most_together, most_houses};
 ghost use Rattle.keeper.specs.Offers.{OfferAnswered, OfferDenied, covers_after, sittings_after};
@@ -8,9 +8,9 @@ ghost use Rattle.books.specs.Opening.{Openable, OpenDenied};
 ghost use Rattle.std.proofs.Common.{rules};
 ghost use Rattle.std.proofs.lemmas.List.{length-map};
 
-use crate::account::{Account, Naming, add_each, open_each, together};
+use crate::account::{Account, Naming, add_each, open_each};
 use crate::offers::is_sound;
-use crate::opening::{OpenDenial, may_open};
+use crate::opening::{OpenDenial, may_open, total_of};
 use crate::pay_ins::is_acceptable;
 use keeper::{
     CoverAnswer, CoverDenial, Keeper, OfferAnswer, OfferDenial, PayInAnswer, PayInDenial, PayingIn,
@@ -20,9 +20,12 @@ use std::alloc::Global;
 #[derive(Drop)]
 pub struct Book<A: Account> {
     accounts: Vec<A>,
+    // what the covers come to: kept, so that no pay-in adds them up
+    together: u64,
     sittings: u64,
     ghost some: { 1 ≤ length accounts.items },
     ghost few: { length accounts.items ≤ most_houses },
+    ghost known: { together ≡ total (map A.cover_in accounts.items) },
     ghost bounded: { total (map A.cover_in accounts.items) ≤ most_together },
 }
 
@@ -35,7 +38,11 @@ impl<A: Naming> Book<A> {
             return Err(OpenDenial::BreaksRule);
         }
         let accounts = open_each(heap, sums)?;
-        Ok(Book { accounts, sittings })
+        Ok(Book {
+            accounts,
+            together: total_of(sums),
+            sittings,
+        })
     }
 
     // What an offer is answered.
@@ -65,7 +72,7 @@ impl<A: Naming> Book<A> {
         if place >= self.accounts.len() {
             return Err(PayInDenial::NoSuchHouse);
         }
-        if !is_acceptable(together(&self.accounts), amount) {
+        if !is_acceptable(self.together, amount) {
             return Err(PayInDenial::Refused);
         }
         Ok(())
@@ -124,6 +131,7 @@ impl<A: Naming> PayingIn for Book<A> {
     {
         self.pay_in_answer(place, amount)?;
         self.accounts[place] = self.accounts[place].moved(amount as i64);
+        self.together += amount;
         Ok(())
     }
 }

@@ -1,5 +1,6 @@
-// The rules of opening a book.
-ghost use Rattle.std.specs.Prelude.{◌≡◌, Decides};
+// The rules of opening a book, and what its covers come to then.
+ghost use Rattle.std.specs.Prelude.{◌≡◌, ◌≤◌, Decides};
+ghost use Rattle.keeper.specs.Covers.{total, most_together};
 ghost use Rattle.books.specs.Opening.{Openable, AllSmall, open_number};
 ghost use Rattle.books.specs.declared.opening.OpenDenial.TheVariants.{NoMemory};
 
@@ -51,4 +52,12 @@ pub(crate) fn may_open(sums: &[u64], sittings: u64) -> bool
     (1..=MOST_HOUSES).contains(&sums.len())
         && (1..=MOST_SITTINGS).contains(&sittings)
         && all_small(sums)
+}
+
+// What the covers come to as the book opens.
+pub(crate) fn total_of(sums: &[u64]) -> u64
+    requires { total sums.now ≤ most_together }
+    ensures { result ≡ total sums.now }
+{
+    sums.iter().sum()
 }

@@ -1,7 +1,8 @@
-use Rattle.std.proofs.Common.{vec_items, sym, ap, ◌∙◌, arith, length-set}
+use Rattle.std.proofs.Common.{map, vec_items, sym, ap, ◌∙◌, arith, length-set}
 use Rattle.std.proofs.Math.Seq.{map-set_same}
 use Rattle.std.proofs.lemmas.Int.{ints}
-use Rattle.books.proofs.Moving.{paid_room, paid_covers, paid_bounded}
+use Rattle.books.proofs.Moving.{paid_room, paid_covers, paid_total}
+use Rattle.books.proofs.Totals.{room_for}
 use Rattle.books.proofs.book.BookPayingIn.pay_in.Goals as goal
 
 pub moved-requires-clause-room : goal.moved-requires-clause-room
@@ -9,6 +10,13 @@ moved-requires-clause-room g c =
     let r = paid_room g.A.Account.cover_in (vec_items c.args.self.now.accounts) c.args.place c.args.amount c.in_ok-pay_in_answer.field-0
     (sym c.in_ok-pay_in_answer.was ∙ c.pay_in_answer.ensures) c.index.result.now c.index.ensures in
     omega (arith, ints)
+
+pub overflow_add-self : goal.overflow_add-self
+overflow_add-self g c =
+    let known = c.args.self.now.known in
+    let m = (room_for (map g.A.Account.cover_in (vec_items c.args.self.now.accounts)) c.args.place c.args.amount c.in_ok-pay_in_answer.field-0
+    (sym c.in_ok-pay_in_answer.was ∙ c.pay_in_answer.ensures)).room in
+    omega arith
 
 pub invariant_of-self : goal.invariant_of-self
 invariant_of-self g c =
@@ -18,12 +26,16 @@ invariant_of-self g c =
     let l = length-set (vec_items c.args.self.now.accounts) c.args.place c.moved.result in
     let some = c.args.self.now.some in
     let few = c.args.self.now.few in
+    let known = c.args.self.now.known in
+    let t = paid_total g.A.Account.cover_in (vec_items c.args.self.now.accounts) c.args.place c.args.amount c.in_ok-pay_in_answer.field-0
+    (sym c.in_ok-pay_in_answer.was ∙ c.pay_in_answer.ensures) c.index.result.now c.index.ensures c.moved.result (omega (arith, ints)) in
+    let m = (room_for (map g.A.Account.cover_in (vec_items c.args.self.now.accounts)) c.args.place c.args.amount c.in_ok-pay_in_answer.field-0
+    (sym c.in_ok-pay_in_answer.was ∙ c.pay_in_answer.ensures)).room in
     record {
       some = omega arith;
       few = omega arith;
-      bounded =
-          paid_bounded g.A.Account.cover_in (vec_items c.args.self.now.accounts) c.args.place c.args.amount c.in_ok-pay_in_answer.field-0
-          (sym c.in_ok-pay_in_answer.was ∙ c.pay_in_answer.ensures) c.index.result.now c.index.ensures c.moved.result (omega (arith, ints));
+      known = omega arith;
+      bounded = omega arith;
     }
 
 pub returns-clause-covers_after : goal.returns-clause-covers_after
